@@ -1,6 +1,6 @@
 use mathlib.Core.Path.{_≡_}
-use Rattle.factors.specs.Factors.{gcd}
-use Rattle.factors.proofs.greatest_common_divisor.Given as given
+use Rattle.numbers.specs.Factors.{gcd}
+use Rattle.numbers.proofs.factors.greatest_common_divisor.Given as given
 
 abbrev pub Inv-loop-y : given.InvT-loop-y
 Inv-loop-y l = gcd (l .x) (l .y) ≡ gcd (l .a) (l .b)

@@ -1,7 +1,7 @@
 use mathlib.Core.Path.{_≡_}
 use Prim.Native.Nat.{ℕ, _≤_, _<_}
-use Rattle.factors.specs.Factors.{gcd}
-use Rattle.factors.proofs.smallest_common_factor.Given as given
+use Rattle.numbers.specs.Factors.{gcd}
+use Rattle.numbers.proofs.factors.smallest_common_factor.Given as given
 
 abbrev pub Inv-loop-factor : given.InvT-loop-factor
 Inv-loop-factor l = (k : ℕ) → 2 ≤ k → k < l .factor → gcd k (l .cells) ≡ 1

@@ -3,7 +3,7 @@ ghost use mathlib.Core.Path.{_≡_};
 ghost use mathlib.Core.Bool.{false};
 ghost use mathlib.Core.Logic.{_↔_};
 ghost use Rattle.std.specs.Options.{isSome, Cases};
-ghost use Rattle.factors.specs.Factors.{gcd, GreatestCommonDivisor, smallest-common-factor, CoprimeUpTo, SmallestCommonFactor};
+ghost use Rattle.numbers.specs.Factors.{gcd, GreatestCommonDivisor, smallest-common-factor, CoprimeUpTo, SmallestCommonFactor};
 
 // Euclid's algorithm.
 pub fn greatest_common_divisor(a: usize, b: usize) -> usize

@@ -4,7 +4,7 @@ use mathlib.Core.Bool.{Bool, cond, not}
 use Prim.Native.Nat.{ℕ, zero, suc, _-_, _%_, _≤_, _<_, _∣_}
 use lib.Dec.{eqb}
 use Rattle.std.specs.declared.option.Option.{Option}
-use Rattle.factors.specs.First.{first-of}
+use Rattle.numbers.specs.First.{first-of}
 
 -- Euclid's algorithm in at most `turns` turns
 abbrev pub euclid : ℕ → ℕ → ℕ → ℕ

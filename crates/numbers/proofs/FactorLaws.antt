@@ -10,9 +10,9 @@ use Rattle.std.proofs.shelf.Tests.{cond-true, cond-false, cases-bool, cases-eq,
 use Rattle.std.specs.Options.{isSome, Cases}
 use Rattle.std.specs.declared.option.Option.{Option}
 use Rattle.std.specs.declared.option.Option.the-variants.{None, Some}
-use Rattle.factors.specs.Factors.{euclid, gcd, GreatestCommonDivisor, common-factor, smallest-common-factor, CoprimeUpTo, SmallestCommonFactor}
-use Rattle.factors.specs.First.{first-of, NonePasses, IsFirst}
-use Rattle.factors.proofs.First.{first-tells-none, first-tells-some, first-none, first-found}
+use Rattle.numbers.specs.Factors.{euclid, gcd, GreatestCommonDivisor, common-factor, smallest-common-factor, CoprimeUpTo, SmallestCommonFactor}
+use Rattle.numbers.specs.First.{first-of, NonePasses, IsFirst}
+use Rattle.numbers.proofs.FirstLaws.{first-tells-none, first-tells-some, first-none, first-found}
 
 abbrev Gcd : ℕ → ℕ → ℕ → Type 0
 Gcd = GreatestCommonDivisor

@@ -1,8 +1,8 @@
 use mathlib.Core.Path.{refl, sym, subst, _∙_}
 use native.Mathlib.Omega.{arith}
-use Rattle.factors.specs.Factors.{GreatestCommonDivisor}
-use Rattle.factors.proofs.Euclid.{gcd-by-zero, gcd-by-turn, gcd-greatest}
-use Rattle.factors.proofs.greatest_common_divisor.Needs as need
+use Rattle.numbers.specs.Factors.{GreatestCommonDivisor}
+use Rattle.numbers.proofs.FactorLaws.{gcd-by-zero, gcd-by-turn, gcd-greatest}
+use Rattle.numbers.proofs.factors.greatest_common_divisor.Needs as need
 
 pub loop-y-again : need.loop-y-again
 loop-y-again c = gcd-by-turn (c .loop-y .x) (c .loop-y .y) (omega arith) ∙ c .loop-y .inv

@@ -3,9 +3,9 @@ use mathlib.Core.Logic.{⊎-elim}
 use Prim.Native.Nat.{ℕ, _+_, _≤_, _<_}
 use native.Mathlib.Omega.{arith}
 use Rattle.std.proofs.shelf.Tests.{cases-eq}
-use Rattle.factors.specs.Factors.{gcd}
-use Rattle.factors.proofs.Euclid.{answered-none, answered-some}
-use Rattle.factors.proofs.smallest_common_factor.Needs as need
+use Rattle.numbers.specs.Factors.{gcd}
+use Rattle.numbers.proofs.FactorLaws.{answered-none, answered-some}
+use Rattle.numbers.proofs.factors.smallest_common_factor.Needs as need
 
 -- one number more that has no common factor
 one-more : (m i : ℕ) → gcd i m ≡ 1 → ((k : ℕ) → 2 ≤ k → k < i → gcd k m ≡ 1) → (k : ℕ) → 2 ≤ k → k < i + 1 → gcd k m ≡ 1

@@ -8,7 +8,7 @@ use native.Mathlib.Nat.{le-refl, add-zero}
 use Rattle.std.proofs.shelf.Tests.{cond-true, cond-false, cases-bool, cases-eq, cases-order, true≢false}
 use Rattle.std.specs.declared.option.Option.{Option}
 use Rattle.std.specs.declared.option.Option.the-variants.{None, Some}
-use Rattle.factors.specs.First.{first-of, NonePasses, IsFirst}
+use Rattle.numbers.specs.First.{first-of, NonePasses, IsFirst}
 
 -- one that fails first, and then none
 none-more : (test : ℕ → Bool) (start end : ℕ) → test start ≡ false → NonePasses test (start + 1) end → NonePasses test start end

@@ -1,2 +1,0 @@
-pub mod Euclid
-pub mod First

@@ -1,0 +1,3 @@
+pub mod FactorLaws
+pub mod FirstLaws
+pub mod RowLaws
