@@ -1,3 +1,4 @@
 pub mod FactorLaws
 pub mod FirstLaws
 pub mod RowLaws
+pub mod NameLaws

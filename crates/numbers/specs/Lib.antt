@@ -1,3 +1,4 @@
 pub mod Factors
 pub mod First
 pub mod Rows
+pub mod Names

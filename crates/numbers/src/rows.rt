@@ -10,12 +10,12 @@ ghost use Rattle.numbers.specs.Rows.{repeats, first-misfit, Distinct, FirstMis
 pub trait Row {
     ghost numbers: { Self → ℕ → ℕ };
 
-    fn number_at(&self, place: usize) -> usize
+    fn number_at(&self, place: u16) -> usize
         ensures value { λ r. ⌜ r ≡ numbers (now (self .entry)) place ⌝ };
 }
 
 // Whether the number at `place` stands at an earlier place too.
-fn repeated<R: Row>(row: &R, place: usize) -> bool
+fn repeated<R: Row>(row: &R, place: u16) -> bool
     ensures value { λ r. ⌜ r ≡ repeats (numbers (now (row .entry))) place ⌝ }
 {
     let number = row.number_at(place);
@@ -28,7 +28,7 @@ fn repeated<R: Row>(row: &R, place: usize) -> bool
 }
 
 // The first of the places 1 to `count` whose number is not from 1 to `most` or repeats an earlier one.
-pub fn first_misfit<R: Row>(row: &R, most: usize, count: usize) -> Option<usize>
+pub fn first_misfit<R: Row>(row: &R, most: usize, count: u16) -> Option<usize>
     ensures value { λ r. ⌜ r ≡ first-misfit (numbers (now (row .entry))) most count ⌝ }
     ensures passes { λ r. ⌜ (isSome r ≡ false) ↔ Distinct (numbers (now (row .entry))) most count ⌝ }
     ensures first { λ r. ⌜ Cases r (Unit {0}) (FirstMisfit (numbers (now (row .entry))) most count) ⌝ }
@@ -36,7 +36,7 @@ pub fn first_misfit<R: Row>(row: &R, most: usize, count: usize) -> Option<usize>
     for place in 1..=count {
         let number = row.number_at(place);
         if number < 1 || number > most || repeated(row, place) {
-            return Some(place);
+            return Some(place as usize);
         }
     }
     None

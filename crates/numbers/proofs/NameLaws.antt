@@ -1,0 +1,34 @@
+-- Laws of lists with names from 1 on. Assumes nothing.
+use mathlib.Core.Path.{_≡_, refl, sym, ap, _∙_}
+use mathlib.Core.List.{List}
+use Prim.Native.Nat.{ℕ, zero, suc, _+_, _≤_, _<_}
+use native.Mathlib.Omega.{arith}
+use lib.ListN.{length}
+use Rattle.std.proofs.shelf.Counted.{length-map-counting, getD-map-counting}
+use Rattle.std.proofs.shelf.Maps.{nth-getD, nth-past}
+use Rattle.std.specs.declared.option.Option.{Option}
+use Rattle.std.specs.declared.option.Option.the-variants.{None, Some}
+use Rattle.numbers.specs.Names.{named, listed}
+
+pub length-listed : {A : Type 0} (g : ℕ → A) (n : ℕ) → length (listed g n) ≡ n
+unfolding listed
+length-listed g n = length-map-counting g 1 n
+
+pub named-listed : {A : Type 0} (g : ℕ → A) (n k : ℕ) → 1 ≤ k → k ≤ n → named (listed g n) k ≡ Some (g k)
+unfolding named listed
+named-listed g n zero a b = absurd (omega arith)
+named-listed g n (suc k) a b =
+    let long = length-map-counting g 1 n in
+    nth-getD _ k (g (suc k)) (omega arith) ∙ ap Some (getD-map-counting g 1 n k (suc k) (g (suc k)) (omega arith) (omega arith))
+
+pub named-zero : {A : Type 0} (xs : List A) → named xs 0 ≡ None
+unfolding named
+named-zero xs = refl
+
+pub named-past : {A : Type 0} (xs : List A) (k : ℕ) → length xs < k → named xs k ≡ None
+unfolding named
+named-past xs zero h = refl
+named-past xs (suc k) h = nth-past xs k (omega arith)
+
+pub named-listed-past : {A : Type 0} (g : ℕ → A) (n k : ℕ) → n < k → named (listed g n) k ≡ None
+named-listed-past g n k h = let long = length-listed g n in named-past (listed g n) k (omega arith)

@@ -1,0 +1,97 @@
+-- How a plan file is judged: the header, its parts, and the checks in their order. Assumes nothing.
+use mathlib.Core.Bool.{Bool, true, false, not, _||_}
+use mathlib.Core.List.{List}
+use Prim.Native.Nat.{ℕ, _+_, _*_, min, max}
+use lib.Dec.{eqb, ltb}
+use lib.ListN.{length}
+use Rattle.std.specs.declared.option.Option.{Option}
+use Rattle.std.specs.declared.option.Option.the-variants.{None, Some}
+use Rattle.std.specs.declared.result.Result.{Result}
+use Rattle.std.specs.declared.result.Result.the-variants.{Ok, Err}
+use Rattle.numbers.specs.Factors.{smallest-common-factor}
+use Rattle.numbers.specs.Rows.{within}
+use Rattle.refusal.specs.declared.Part.{Part}
+use Rattle.refusal.specs.declared.Part.the-variants.{Identities, Tables, Events}
+use Rattle.refusal.specs.declared.Refusal.{Refusal}
+use Rattle.refusal.specs.declared.Refusal.the-variants.{FileLength, FileVersion, FileRule, FileAgents, FileCells, CommonFactor, PartOutside, PartsOverlap}
+use Rattle.plan.specs.Bytes.{byte, word}
+use Rattle.plan.specs.declared.header.Header.{Header}
+use Rattle.plan.specs.declared.header.Span.{Span}
+
+infixr 5 _then_
+-- the first check that refuses decides; else what follows
+abbrev pub _then_ : {A : Type 0} → Result (Unit {0}) Refusal → Result A Refusal → Result A Refusal
+Ok u then r = r
+Err e then r = Err e
+
+abbrev pub Check : Type 0
+Check = Result (Unit {0}) Refusal
+
+abbrev pub refuse-if : Bool → Refusal → Check
+refuse-if true e = Err e
+refuse-if false e = Ok tt
+
+-- refuse at the place that was found
+abbrev pub refuse-at : (ℕ → Refusal) → Option ℕ → Check
+refuse-at e None = Ok tt
+refuse-at e (Some k) = Err (e k)
+
+-- the fields of the twelve bytes that a file opens with
+abbrev pub header-of : List ℕ → Header
+header-of f = record {
+  version = byte f 0;
+  rule = byte f 1;
+  agents = byte f 2;
+  cells = byte f 3;
+  identities = word f 4;
+  tables = word f 6;
+  events = word f 8;
+  count = word f 10;
+}
+
+abbrev pub length-check : List ℕ → Check
+length-check f = refuse-if (not (within 12 65535 (length f))) FileLength
+
+abbrev pub header-read : List ℕ → Result Header Refusal
+header-read f = length-check f then Ok (header-of f)
+
+abbrev pub header-check : ℕ → Header → Check
+header-check rule h =
+    refuse-if (not (eqb (h .version) 1)) FileVersion then
+    refuse-if (not (eqb (h .rule) rule)) FileRule then
+    refuse-if (not (within 2 16 (h .agents))) FileAgents then
+    refuse-if (not (within 2 64 (h .cells))) FileCells then
+    refuse-at CommonFactor (smallest-common-factor (h .agents) (h .cells))
+
+-- where a part begins, and how many bytes it has
+abbrev pub offset : Header → Part → ℕ
+offset h Identities = h .identities
+offset h Tables = h .tables
+offset h Events = h .events
+
+abbrev pub size : Header → Part → ℕ
+size h Identities = 2 * h .agents
+size h Tables = h .agents * h .cells
+size h Events = 2 * h .count
+
+abbrev pub span-of : Header → Part → Span
+span-of h p = record { start = offset h p; end = offset h p + size h p }
+
+abbrev pub inside-check : Header → ℕ → Part → Check
+inside-check h len p = refuse-if (ltb (span-of h p .start) 12 || ltb len (span-of h p .end)) (PartOutside p)
+
+-- two parts have a byte in common if the later begins before the earlier ends
+abbrev pub overlap : Span → Span → Bool
+overlap s t = ltb (max (s .start) (t .start)) (min (s .end) (t .end))
+
+abbrev pub apart-check : Header → Part → Part → Check
+apart-check h p q = refuse-if (overlap (span-of h p) (span-of h q)) (PartsOverlap p q)
+
+abbrev pub parts-check : Header → ℕ → Check
+parts-check h len =
+    inside-check h len Identities then
+    inside-check h len Tables then
+    inside-check h len Events then
+    apart-check h Identities Tables then
+    apart-check h Identities Events then
+    apart-check h Tables Events

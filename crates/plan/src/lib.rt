@@ -1,0 +1,6 @@
+// Plan files: taken apart, judged, and answered as a typed plan.
+mod bytes;
+mod event;
+mod header;
+
+pub use event::Event;
