@@ -77,3 +77,16 @@ first-tells-some test start count end i e some =
     (λ n. let z : _≡_ {A = ℕ} 0 1 = cc (some, n .0) in absurd (omega arith))
     (λ s. let same : s .0 ≡ i = cc (some, s .1) in subst (IsFirst test start end) same (s .2))
     (first-cases test start count end e)
+
+-- one more that fails, at the end
+pub none-push : (test : ℕ → Bool) (start i : ℕ) → test i ≡ false → NonePasses test start i → NonePasses test start (i + 1)
+none-push test start i here before k a b =
+    ⊎-elim (λ same. subst (λ n. test n ≡ false) (sym same) here) (λ other. before k a (omega arith)) (cases-eq k i)
+
+-- the same over the numbers 1 to n
+pub none-up-to : (test : ℕ → Bool) (n : ℕ) → ((k : ℕ) → 1 ≤ k → k ≤ n → test k ≡ false) → first-of test 1 n ≡ None
+none-up-to test n h = first-none test 1 n (1 + n) refl (λ k a b. h k a (omega arith))
+
+pub first-up-to : (test : ℕ → Bool) (n i : ℕ) → 1 ≤ i → i ≤ n → test i ≡ true → NonePasses test 1 i → first-of test 1 n ≡ Some i
+first-up-to test n i a b here before =
+    first-found test 1 n (1 + n) i refl (record { from = a; below = omega arith; passes = here; first = before })

@@ -1,6 +1,8 @@
 -- Laws of lists with names from 1 on. Assumes nothing.
 use mathlib.Core.Path.{_≡_, refl, sym, ap, _∙_}
+use mathlib.Core.Bool.{true, false}
 use mathlib.Core.List.{List}
+use mathlib.Core.Logic.{_⊎_, inl, inr, ⊎-elim}
 use Prim.Native.Nat.{ℕ, zero, suc, _+_, _≤_, _<_}
 use native.Mathlib.Omega.{arith}
 use lib.ListN.{length}
@@ -8,7 +10,10 @@ use Rattle.std.proofs.shelf.Counted.{length-map-counting, getD-map-counting}
 use Rattle.std.proofs.shelf.Maps.{nth-getD, nth-past}
 use Rattle.std.specs.declared.option.Option.{Option}
 use Rattle.std.specs.declared.option.Option.the-variants.{None, Some}
+use Rattle.std.proofs.shelf.Tests.{cases-lt}
 use Rattle.numbers.specs.Names.{named, listed}
+use Rattle.numbers.specs.Rows.{within}
+use Rattle.numbers.proofs.RowLaws.{within-true, within-false}
 
 pub length-listed : {A : Type 0} (g : ℕ → A) (n : ℕ) → length (listed g n) ≡ n
 unfolding listed
@@ -32,3 +37,17 @@ named-past xs (suc k) h = nth-past xs k (omega arith)
 
 pub named-listed-past : {A : Type 0} (g : ℕ → A) (n k : ℕ) → n < k → named (listed g n) k ≡ None
 named-listed-past g n k h = let long = length-listed g n in named-past (listed g n) k (omega arith)
+
+-- in and out of range, by the test
+pub named-in : {A : Type 0} (g : ℕ → A) (n k : ℕ) → within 1 n k ≡ true → named (listed g n) k ≡ Some (g k)
+named-in g n k e = let w = within-true 1 n k e in named-listed g n k (w .0) (w .1)
+
+pub named-out : {A : Type 0} (g : ℕ → A) (n k : ℕ) → within 1 n k ≡ false → named (listed g n) k ≡ None
+named-out g n k e =
+    ⊎-elim
+    (λ low. let z : k ≡ 0 = omega arith in ap (named (listed g n)) z ∙ named-zero (listed g n))
+    (λ high. ⊎-elim (λ in′. absurd (within-false 1 n k e high in′)) (λ out. named-listed-past g n k out) (cases-le k n))
+    (cases-lt k 1)
+  where
+    cases-le : (a b : ℕ) → (a ≤ b) ⊎ (b < a)
+    cases-le a b = ⊎-elim inr inl (cases-lt b a)

@@ -1,3 +1,4 @@
-// Facts of numbers that the rest builds on: common factors, and rows of numbers with no repeats.
+// Facts of numbers that the rest builds on: common factors, names, and rows of numbers with no repeats.
 pub mod factors;
+pub mod names;
 pub mod rows;

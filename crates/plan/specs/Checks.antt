@@ -1,22 +1,26 @@
 -- How a plan file is judged: the header, its parts, and the checks in their order. Assumes nothing.
-use mathlib.Core.Bool.{Bool, true, false, not, _||_}
+use mathlib.Core.Bool.{Bool, true, false, not, _&&_, _||_}
 use mathlib.Core.List.{List}
 use Prim.Native.Nat.{ℕ, _+_, _*_, min, max}
 use lib.Dec.{eqb, ltb}
 use lib.ListN.{length}
+use Rattle.std.specs.Options.{isSome}
 use Rattle.std.specs.declared.option.Option.{Option}
 use Rattle.std.specs.declared.option.Option.the-variants.{None, Some}
 use Rattle.std.specs.declared.result.Result.{Result}
 use Rattle.std.specs.declared.result.Result.the-variants.{Ok, Err}
 use Rattle.numbers.specs.Factors.{smallest-common-factor}
-use Rattle.numbers.specs.Rows.{within}
+use Rattle.numbers.specs.First.{first-of}
+use Rattle.numbers.specs.Rows.{within, first-misfit}
 use Rattle.refusal.specs.declared.Part.{Part}
 use Rattle.refusal.specs.declared.Part.the-variants.{Identities, Tables, Events}
 use Rattle.refusal.specs.declared.Refusal.{Refusal}
-use Rattle.refusal.specs.declared.Refusal.the-variants.{FileLength, FileVersion, FileRule, FileAgents, FileCells, CommonFactor, PartOutside, PartsOverlap}
+use Rattle.refusal.specs.declared.Refusal.the-variants.{FileLength, FileVersion, FileRule, FileAgents, FileCells, CommonFactor, PartOutside, PartsOverlap, BadIdentity, BadEntry, BadEvent}
 use Rattle.plan.specs.Bytes.{byte, word}
+use Rattle.plan.specs.Plans.{identity-at, entry-at, kind-at, agent-at, Sayings, plan-at, model}
 use Rattle.plan.specs.declared.header.Header.{Header}
 use Rattle.plan.specs.declared.header.Span.{Span}
+use Rattle.plan.specs.declared.plan.Plan.{Plan}
 
 infixr 5 _then_
 -- the first check that refuses decides; else what follows
@@ -95,3 +99,42 @@ parts-check h len =
     apart-check h Identities Tables then
     apart-check h Identities Events then
     apart-check h Tables Events
+
+abbrev pub identities-check : Header → List ℕ → Check
+identities-check h f = refuse-at BadIdentity (first-misfit (identity-at h f) 65535 (h .agents))
+
+-- the first bad local name in the table of agent k
+abbrev pub row-misfit : Header → List ℕ → ℕ → Option ℕ
+row-misfit h f k = first-misfit (entry-at h f k) (h .cells) (h .cells)
+
+abbrev pub refuse-in-table : Header → List ℕ → Option ℕ → Check
+refuse-in-table h f None = Ok tt
+refuse-in-table h f (Some k) = refuse-at (BadEntry k) (row-misfit h f k)
+
+-- agents first, and then the local names of the first one whose table is bad
+abbrev pub tables-check : Header → List ℕ → Check
+tables-check h f = refuse-in-table h f (first-of (λ k. isSome (row-misfit h f k)) 1 (h .agents))
+
+abbrev pub known : Header → List ℕ → ℕ → Bool
+known h f i = within 1 3 (kind-at h f i) && within 1 (h .agents) (agent-at h f i)
+
+abbrev pub events-check : Header → List ℕ → Check
+events-check h f = refuse-at BadEvent (first-of (λ i. not (known h f i)) 1 (h .count))
+
+-- all checks of a file with header h, in their order
+abbrev pub all-checks : ℕ → Header → List ℕ → Check
+all-checks rule h f =
+    header-check rule h then
+    parts-check h (length f) then
+    identities-check h f then
+    tables-check h f then
+    events-check h f
+
+-- the answer to a file: the first refusal, or the plan
+abbrev pub decoded : ℕ → List ℕ → Result Sayings Refusal
+decoded rule f = length-check f then all-checks rule (header-of f) f then Ok (plan-at (header-of f) f)
+
+-- what a decoder answered, by what its plan says
+abbrev pub answered : Result Plan Refusal → Result Sayings Refusal
+answered (Ok p) = Ok (model p)
+answered (Err e) = Err e

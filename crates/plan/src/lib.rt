@@ -1,6 +1,10 @@
 // Plan files: taken apart, judged, and answered as a typed plan.
 mod bytes;
+mod decode;
 mod event;
 mod header;
+mod plan;
+mod rows;
 
 pub use event::Event;
+pub use plan::Plan;

@@ -1,0 +1,27 @@
+-- Laws of checks that come one after another. Assumes nothing.
+use mathlib.Core.Path.{_≡_, refl, sym, ap, subst, _∙_}
+use mathlib.Core.List.{List}
+use Prim.Native.Nat.{ℕ}
+use native.Mathlib.Omega.{arith}
+use Rattle.std.specs.declared.result.Result.{Result}
+use Rattle.std.specs.declared.result.Result.the-variants.{Ok, Err}
+use Rattle.refusal.specs.declared.Refusal.{Refusal}
+use Rattle.plan.specs.declared.header.Header.{Header}
+use Rattle.plan.specs.Plans.{Sayings, plan-at}
+use Rattle.plan.specs.Checks.{_then_, Check, length-check, header-of, header-read, all-checks, decoded}
+
+-- where checks came to an answer, the first passed
+pub ok-then : {A : Type 0} (c : Check) (r : Result A Refusal) (x : A) → Ok x ≡ (c then r) → (c ≡ Ok tt) × (Ok x ≡ r)
+ok-then (Ok u) r x e = (refl, e)
+ok-then (Err d) r x e = let z : _≡_ {A = ℕ} 0 1 = cc in absurd (omega arith)
+
+pub read-ok : (f : List ℕ) (h : Header) → Ok h ≡ header-read f → (length-check f ≡ Ok tt) × (h ≡ header-of f)
+read-ok f h e = let p = ok-then (length-check f) (Ok (header-of f)) h e in (p .0, cc (p .1))
+
+-- the answer after the length was found good
+pub decoded-after : (rule : ℕ) (f : List ℕ) (h : Header) (c : Check) → Ok h ≡ header-read f → c ≡ all-checks rule h f → (c then Ok (plan-at h f)) ≡ decoded rule f
+decoded-after rule f h c read is =
+    let p = read-ok f h read in
+    ap (λ k. k then Ok (plan-at h f)) is
+    ∙ ap (λ g. all-checks rule g f then Ok (plan-at g f)) (p .1)
+    ∙ sym (ap (λ k. k then all-checks rule (header-of f) f then Ok (plan-at (header-of f) f)) (p .0))
