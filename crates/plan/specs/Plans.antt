@@ -6,11 +6,16 @@ use lib.Dec.{eqb}
 use Rattle.std.specs.declared.option.Option.{Option}
 use Rattle.std.specs.declared.option.Option.the-variants.{None, Some}
 use Rattle.numbers.specs.Names.{named, listed}
+use Rattle.numbers.specs.Rows.{within}
 use Rattle.plan.specs.Bytes.{byte, word}
 use Rattle.plan.specs.declared.event.Event.{Event}
 use Rattle.plan.specs.declared.event.Event.the-variants.{Request, Step, Leave}
 use Rattle.plan.specs.declared.header.Header.{Header}
 use Rattle.plan.specs.declared.plan.Plan.{Plan}
+
+-- the rule that a file asks for: its rule byte, or 1 where that is missing or not from 1 to 3
+abbrev pub rule-asked : List ℕ → ℕ
+rule-asked f = cond (within 1 3 (byte f 1)) (byte f 1) 1
 
 -- the identity of agent k
 abbrev pub identity-at : Header → List ℕ → ℕ → ℕ

@@ -5,6 +5,8 @@ mod event;
 mod header;
 mod plan;
 mod rows;
+mod rule;
 
 pub use event::Event;
 pub use plan::Plan;
+pub use rule::rule_asked;
