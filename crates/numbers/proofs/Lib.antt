@@ -2,3 +2,4 @@ pub mod FactorLaws
 pub mod FirstLaws
 pub mod RowLaws
 pub mod NameLaws
+pub mod Pigeonhole

@@ -10,7 +10,8 @@ use Rattle.std.specs.Options.{isSome, Cases}
 use Rattle.std.specs.declared.option.Option.{Option}
 use Rattle.std.specs.declared.option.Option.the-variants.{None, Some}
 use Rattle.numbers.specs.First.{first-of, NonePasses, IsFirst}
-use Rattle.numbers.specs.Rows.{within, repeats, misfit, first-misfit, Distinct, FirstMisfit}
+use Rattle.numbers.specs.Rows.{within, repeats, misfit, first-misfit, Distinct, EveryNumber, FirstMisfit}
+use Rattle.numbers.proofs.Pigeonhole.{every-number}
 use Rattle.numbers.proofs.FirstLaws.{first-cases, first-none, first-found, first-tells-none, first-tells-some}
 
 -- within, as an order
@@ -130,10 +131,11 @@ module _ (row : ℕ → ℕ) where
     pub record Answered (count : ℕ) (r : Option ℕ) : Type 0 where
       pub value : r ≡ first-misfit row most count
       pub passes : (isSome r ≡ false) ↔ Distinct row most count
+      pub complete : isSome r ≡ false → most ≡ count → EveryNumber row count
       pub first : Cases r (Unit {0}) (FirstMisfit row most count)
 
     pub answered-none : (count : ℕ) → ((k : ℕ) → 1 ≤ k → k ≤ count → Fits k) → Answered count None
-    answered-none count h = record { value = sym (first-misfit-none count h); passes = (λ _. distinct-from count h, λ _. refl); first = tt }
+    answered-none count h = record { value = sym (first-misfit-none count h); passes = (λ _. distinct-from count h, λ _. refl); complete = λ _ full v. every-number row count v (subst (λ n. Distinct row n count) full (distinct-from count h)); first = tt }
 
     pub answered-some : (count k : ℕ) → 1 ≤ k → k ≤ count → ((1 ≤ row k) × (row k ≤ most) → repeats row k ≡ true) → ((j : ℕ) → 1 ≤ j → j < k → Fits j) → Answered count (Some k)
     answered-some count k a b bad before =
@@ -146,5 +148,6 @@ module _ (row : ℕ → ℕ) where
                 let f = distinct-fits count d k a b in
                 absurd (true≢false (sym (bad (f .low, f .high)) ∙ f .new)),
           );
+          complete = λ e. absurd (true≢false e);
           first = first-misfit-tells-some count k is;
         }

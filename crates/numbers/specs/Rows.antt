@@ -29,6 +29,10 @@ pub record Distinct (row : ℕ → ℕ) (most count : ℕ) : Type 0 where
   pub inside : (k : ℕ) → 1 ≤ k → k ≤ count → (1 ≤ row k) × (row k ≤ most)
   pub apart : (j k : ℕ) → 1 ≤ j → j < k → k ≤ count → row j ≡ row k → ⊥
 
+-- every number from 1 to count stands at one of the places 1 to count
+abbrev pub EveryNumber : (ℕ → ℕ) → ℕ → Type 0
+EveryNumber row count = (v : ℕ) → 1 ≤ v → v ≤ count → (k : ℕ) × (1 ≤ k) × (k ≤ count) × (row k ≡ v)
+
 -- up to place k the row is such a one, and at k it stops being so: out of range, or the same as at an earlier place
 pub record FirstMisfit (row : ℕ → ℕ) (most count k : ℕ) : Type 0 where
   pub from-one : 1 ≤ k

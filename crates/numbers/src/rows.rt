@@ -4,7 +4,7 @@ ghost use mathlib.Core.Bool.{false};
 ghost use mathlib.Core.Logic.{_↔_};
 ghost use Prim.Native.Nat.{ℕ};
 ghost use Rattle.std.specs.Options.{isSome, Cases};
-ghost use Rattle.numbers.specs.Rows.{repeats, first-misfit, Distinct, FirstMisfit};
+ghost use Rattle.numbers.specs.Rows.{repeats, first-misfit, Distinct, EveryNumber, FirstMisfit};
 
 // Numbers that stand at places from 1 on.
 pub trait Row {
@@ -31,6 +31,7 @@ fn repeated<R: Row>(row: &R, place: u16) -> bool
 pub fn first_misfit<R: Row>(row: &R, most: usize, count: u16) -> Option<usize>
     ensures value { λ r. ⌜ r ≡ first-misfit (numbers (now (row .entry))) most count ⌝ }
     ensures passes { λ r. ⌜ (isSome r ≡ false) ↔ Distinct (numbers (now (row .entry))) most count ⌝ }
+    ensures complete { λ r. ⌜ (isSome r ≡ false → most ≡ count → EveryNumber (numbers (now (row .entry))) count) ⌝ }
     ensures first { λ r. ⌜ Cases r (Unit {0}) (FirstMisfit (numbers (now (row .entry))) most count) ⌝ }
 {
     for place in 1..=count {

@@ -31,7 +31,7 @@ returns-then-number-lt1 g c =
     ]
     in
     let h = answered-some row (c .args .most) (c .args .count) i (c .loop-place .kept .place) (c .loop-place-test .taken) bad (c .loop-place .inv) in
-    record { value = h .value; passes = h .passes; first = h .first }
+    record { value = h .value; passes = h .passes; complete = h .complete; first = h .first }
 
 pub loop-place-again : need.loop-place-again
 loop-place-again g c =
@@ -44,7 +44,7 @@ pub returns : need.returns
 returns g c =
     let row = g .R·Row .numbers (c .args .row .now) in
     let h = answered-none row (c .args .most) (c .args .count) (λ k a b. c .loop-place .inv k a (omega arith)) in
-    record { value = h .value; passes = h .passes; first = h .first }
+    record { value = h .value; passes = h .passes; complete = h .complete; first = h .first }
 
 pub returns-else-repeated : need.returns-else-repeated
 returns-else-repeated g c =
@@ -55,4 +55,4 @@ returns-else-repeated g c =
     (c .loop-place .inv)
     in
     let h = answered-none row (c .args .most) (c .args .count) (λ k a b. all k a (omega arith)) in
-    record { value = h .value; passes = h .passes; first = h .first }
+    record { value = h .value; passes = h .passes; complete = h .complete; first = h .first }
