@@ -151,3 +151,8 @@ module _ (row : ℕ → ℕ) where
           complete = λ e. absurd (true≢false e);
           first = first-misfit-tells-some count k is;
         }
+
+    -- a first misfit is what the search finds
+    pub misfit-from-first : (count k : ℕ) → FirstMisfit row most count k → first-misfit row most count ≡ Some k
+    misfit-from-first count k h =
+        first-misfit-some count k (h .from-one) (h .up-to) (misfit-true k (λ w. let m = h .here w in repeats-here k (m .0) (m .1) (m .2) (m .3))) (λ j a b. distinct-fits (k - 1) (h .before) j a (omega arith))
