@@ -25,3 +25,11 @@ decoded-after rule f h c read is =
     ap (λ k. k then Ok (plan-at h f)) is
     ∙ ap (λ g. all-checks rule g f then Ok (plan-at g f)) (p .1)
     ∙ sym (ap (λ k. k then all-checks rule (header-of f) f then Ok (plan-at (header-of f) f)) (p .0))
+
+-- a file whose length was refused
+err-then : {A B : Type 0} (c : Check) (r : Result A Refusal) (s : Result B Refusal) (x : A) (e : Refusal) → r ≡ Ok x → Err e ≡ (c then r) → Err e ≡ (c then s)
+err-then (Ok u) r s x e ok is = let z : _≡_ {A = ℕ} 0 1 = cc in absurd (omega arith)
+err-then (Err d) r s x e ok is = let same : e ≡ d = cc in ap Err same
+
+pub read-refused : (rule : ℕ) (f : List ℕ) (e : Refusal) → Err e ≡ header-read f → Err e ≡ decoded rule f
+read-refused rule f e is = err-then (length-check f) (Ok (header-of f)) (all-checks rule (header-of f) f then Ok (plan-at (header-of f) f)) (header-of f) e refl is

@@ -1,5 +1,12 @@
 // The whole judgement of a plan file, check by check.
 ghost use mathlib.Core.Path.{_≡_};
+ghost use mathlib.Core.Bool.{true};
+ghost use mathlib.Core.Logic.{_↔_};
+ghost use Rattle.std.specs.Results.{isOk};
+ghost use Rattle.std.specs.Vec.{made};
+ghost use Rattle.std.specs.declared.result.Result.the-variants.{Err};
+ghost use Rattle.plan.specs.Accepted.{Acceptable, Fault, Faithful};
+ghost use Rattle.plan.specs.Plans.{model};
 ghost use Rattle.plan.specs.Checks.{row-misfit, known, identities-check, tables-check, events-check, all-checks, answered, decoded};
 use crate::bytes::byte_at;
 use crate::header::Header;
@@ -93,6 +100,9 @@ impl<'a> Plan<'a> {
     // The plan in a file for the expected rule, or the first refusal.
     pub fn decode(file: &'a [u8], rule: u8) -> Result<Plan<'a>, Refusal>
         ensures value { λ r. ⌜ answered r ≡ decoded rule (now (file .entry)) ⌝ }
+        ensures accepted { λ r. ⌜ (isOk r ≡ true) ↔ Acceptable rule (now (file .entry)) ⌝ }
+        ensures refused { λ r. ⌜ ((e : Refusal) → (r ≡ Err e) ↔ Fault rule (now (file .entry)) e) ⌝ }
+        ensures faithful { λ r. ⌜ made r (λ p. Faithful (now (file .entry)) (model p)) ⌝ }
     {
         let header = Header::read(file)?;
         header.check_all(file, rule)?;
