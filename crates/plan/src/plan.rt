@@ -65,7 +65,8 @@ impl Plan<'_> {
     pub fn event_count(&self) -> usize
         ensures value { λ r. ⌜ r ≡ length (model (now (self .entry)) .events) ⌝ }
     {
-        self.header.count as usize
+        let count = self.header.count;
+        count as usize
     }
 
     // An event; events count from 1.

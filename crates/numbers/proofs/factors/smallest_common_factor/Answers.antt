@@ -14,7 +14,7 @@ one-more m i here below k a b = ⊎-elim (λ same. subst (λ n. gcd n m ≡ 1) (
 pub returns-then-greatest-common-divisor-ne1 : need.returns-then-greatest-common-divisor-ne1
 returns-then-greatest-common-divisor-ne1 c =
     let h =
-    answered-some (c .args .agents) (c .args .cells) (c .loop-factor .factor) (c .loop-factor .kept .factor) (c .loop-factor-test .taken)
+    answered-some (c .args .agents) (c .args .cells) (c .loop-factor .factor) (omega arith) (omega arith)
     (λ e. c .if-greatest-common-divisor-ne1 .taken (c .greatest-common-divisor .ensures .value ∙ e))
     (c .loop-factor .inv)
     in

@@ -9,7 +9,7 @@ pub returns-then-number-at-number : need.returns-then-number-at-number
 returns-then-number-at-number g c =
     let row = g .R·Row .numbers (c .args .row .now) in
     record {
-      value = sym (repeats-here row (c .args .place) (c .loop-earlier .earlier) (c .loop-earlier .kept .earlier) (c .loop-earlier-test .taken) (sym (c .number-at .ensures .value) ∙ c .if-number-at-number .taken ∙ c .number-at-number .ensures .value));
+      value = sym (repeats-here row (c .args .place) (c .loop-earlier .earlier) (omega arith) (omega arith) (sym (c .number-at .ensures .value) ∙ c .if-number-at-number .taken ∙ c .number-at-number .ensures .value));
     }
 
 pub loop-earlier-again : need.loop-earlier-again
