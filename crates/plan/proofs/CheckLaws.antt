@@ -8,7 +8,8 @@ use Rattle.std.specs.declared.result.Result.the-variants.{Ok, Err}
 use Rattle.refusal.specs.declared.Refusal.{Refusal}
 use Rattle.plan.specs.declared.header.Header.{Header}
 use Rattle.plan.specs.Plans.{Sayings, plan-at}
-use Rattle.plan.specs.Checks.{_then_, Check, length-check, header-of, header-read, all-checks, decoded}
+use Rattle.refusal.specs.Checks.{_then_, Check}
+use Rattle.plan.specs.Checks.{length-check, header-of, header-read, all-checks, decoded}
 
 -- where checks came to an answer, the first passed
 pub ok-then : {A : Type 0} (c : Check) (r : Result A Refusal) (x : A) → Ok x ≡ (c then r) → (c ≡ Ok tt) × (Ok x ≡ r)

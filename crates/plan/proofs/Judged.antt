@@ -26,7 +26,8 @@ use Rattle.refusal.specs.declared.Part.the-variants.{Identities, Tables, Events
 use Rattle.refusal.specs.declared.Refusal.{Refusal}
 use Rattle.refusal.specs.declared.Refusal.the-variants.{FileLength, FileVersion, FileRule, FileAgents, FileCells, CommonFactor, PartOutside, PartsOverlap, BadIdentity, BadEntry, BadEvent, NoSuchAgent, NotIdle, NotHolding, AtRest, HeardAll, NoSuchCell, NoMark, CellCount, BufferTooShort, CellTaken, NotBlank, OnStandoff, NoCommonFactor, StandoffAgents, StandoffCells, NoStandoff, RowLength, BadRenumbering}
 use Rattle.plan.specs.Accepted.{Between, Inside, In, Apart, Before, PairBefore, KnownEvent, GoodLength, GoodVersion, GoodRule, GoodAgents, GoodCells, GoodFactors, GoodParts, GoodLayout, GoodIdentities, GoodTables, Acceptable, Fault}
-use Rattle.plan.specs.Checks.{_then_, Check, refuse-if, refuse-at, header-of, length-check, header-check, span-of, inside-check, overlap, apart-check, parts-check, identities-check, row-misfit, refuse-in-table, tables-check, known, events-check, all-checks, decoded}
+use Rattle.refusal.specs.Checks.{_then_, Check, refuse-if, refuse-at}
+use Rattle.plan.specs.Checks.{header-of, length-check, header-check, span-of, inside-check, overlap, apart-check, parts-check, identities-check, row-misfit, refuse-in-table, tables-check, known, events-check, all-checks, decoded}
 use Rattle.plan.specs.Plans.{identity-at, entry-at, kind-at, agent-at, plan-at, Sayings}
 use Rattle.plan.specs.declared.header.Span.{Span}
 

@@ -1,5 +1,5 @@
 -- How a plan file is judged: the header, its parts, and the checks in their order. Assumes nothing.
-use mathlib.Core.Bool.{Bool, true, false, not, _&&_, _||_}
+use mathlib.Core.Bool.{Bool, not, _&&_, _||_}
 use mathlib.Core.List.{List}
 use Prim.Native.Nat.{ℕ, _+_, _*_, min, max}
 use lib.Dec.{eqb, ltb}
@@ -12,6 +12,7 @@ use Rattle.std.specs.declared.result.Result.the-variants.{Ok, Err}
 use Rattle.numbers.specs.Factors.{smallest-common-factor}
 use Rattle.numbers.specs.First.{first-of}
 use Rattle.numbers.specs.Rows.{within, first-misfit}
+use Rattle.refusal.specs.Checks.{_then_, Check, refuse-if, refuse-at}
 use Rattle.refusal.specs.declared.Part.{Part}
 use Rattle.refusal.specs.declared.Part.the-variants.{Identities, Tables, Events}
 use Rattle.refusal.specs.declared.Refusal.{Refusal}
@@ -21,24 +22,6 @@ use Rattle.plan.specs.Plans.{identity-at, entry-at, kind-at, agent-at, Sayings
 use Rattle.plan.specs.declared.header.Header.{Header}
 use Rattle.plan.specs.declared.header.Span.{Span}
 use Rattle.plan.specs.declared.plan.Plan.{Plan}
-
-infixr 5 _then_
--- the first check that refuses decides; else what follows
-abbrev pub _then_ : {A : Type 0} → Result (Unit {0}) Refusal → Result A Refusal → Result A Refusal
-Ok u then r = r
-Err e then r = Err e
-
-abbrev pub Check : Type 0
-Check = Result (Unit {0}) Refusal
-
-abbrev pub refuse-if : Bool → Refusal → Check
-refuse-if true e = Err e
-refuse-if false e = Ok tt
-
--- refuse at the place that was found
-abbrev pub refuse-at : (ℕ → Refusal) → Option ℕ → Check
-refuse-at e None = Ok tt
-refuse-at e (Some k) = Err (e k)
 
 -- the fields of the twelve bytes that a file opens with
 abbrev pub header-of : List ℕ → Header

@@ -4,7 +4,8 @@ use Prim.Native.Nat.{_+_}
 use native.Mathlib.Omega.{arith}
 use Rattle.refusal.specs.declared.Refusal.the-variants.{BadEvent}
 use Rattle.numbers.proofs.FirstLaws.{none-push, first-up-to, none-up-to}
-use Rattle.plan.specs.Checks.{known, refuse-at}
+use Rattle.refusal.specs.Checks.{refuse-at}
+use Rattle.plan.specs.Checks.{known}
 use Rattle.plan.proofs.header.Header.check_events.Needs as need
 
 pub returns-then-not-knows-event : need.returns-then-not-knows-event

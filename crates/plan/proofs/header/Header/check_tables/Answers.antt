@@ -4,7 +4,8 @@ use native.Mathlib.Omega.{arith}
 use Rattle.refusal.specs.declared.Refusal.the-variants.{BadEntry}
 use Rattle.std.specs.Options.{isSome}
 use Rattle.numbers.proofs.FirstLaws.{none-push, first-up-to, none-up-to}
-use Rattle.plan.specs.Checks.{row-misfit, refuse-at, refuse-in-table}
+use Rattle.refusal.specs.Checks.{refuse-at}
+use Rattle.plan.specs.Checks.{row-misfit, refuse-in-table}
 use Rattle.plan.proofs.header.Header.check_tables.Needs as need
 
 pub returns-in-Some : need.returns-in-Some

@@ -2,7 +2,8 @@ use mathlib.Core.Path.{_≡_, sym, ap, _∙_}
 use Rattle.std.proofs.shelf.Results.{err-from-errBy}
 use Rattle.std.specs.declared.result.Result.the-variants.{Ok, Err}
 use Rattle.plan.specs.Plans.{plan-at}
-use Rattle.plan.specs.Checks.{_then_, answered}
+use Rattle.refusal.specs.Checks.{_then_}
+use Rattle.plan.specs.Checks.{answered}
 use Rattle.plan.proofs.CheckLaws.{decoded-after, read-refused}
 use Rattle.plan.proofs.Faith.{judgement}
 use Rattle.plan.proofs.plan.Plan.decode.Needs as need
