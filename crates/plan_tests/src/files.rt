@@ -4,11 +4,12 @@ use std::alloc::Global;
 
 // Three agents and five cells under rule 1: the parts one behind another, and nothing else.
 pub const TIGHT: [u8; 39] = [
-    // Version, rule, agents, cells; where identities, tables and events begin; the event count.
+    // Version, rule, agents and cells.
     1,
     1,
     3,
     5,
+    // Where identities, tables and events begin, and the event count.
     0,
     12,
     0,
@@ -17,30 +18,32 @@ pub const TIGHT: [u8; 39] = [
     33,
     0,
     3,
-    // 12: identities 7, 256 and 65,535.
+    // At 12: identities 7, 256 and 65,535.
     0,
     7,
     1,
     0,
     255,
     255,
-    // 18, 23, 28: a table for each agent.
+    // At 18: the table of agent 1.
     1,
     2,
     3,
     4,
     5,
+    // At 23: of agent 2.
     5,
     4,
     3,
     2,
     1,
+    // At 28: of agent 3.
     2,
     4,
     1,
     5,
     3,
-    // 33: agent 1 requests, agent 3 steps, agent 2 leaves.
+    // At 33: agent 1 requests, agent 3 steps, agent 2 leaves.
     1,
     1,
     2,
@@ -51,10 +54,12 @@ pub const TIGHT: [u8; 39] = [
 
 // The same sizes under rule 3: tables, events and identities in this order, with bytes of 99 around them.
 pub const LOOSE: [u8; 45] = [
+    // Version, rule, agents and cells.
     1,
     3,
     3,
     5,
+    // Where identities, tables and events begin, and the event count.
     0,
     37,
     0,
@@ -63,40 +68,46 @@ pub const LOOSE: [u8; 45] = [
     29,
     0,
     3,
+    // At 12: in no part.
     99,
-    // 13, 18, 23: a table for each agent.
+    // At 13: the table of agent 1.
     3,
     1,
     2,
     5,
     4,
+    // At 18: of agent 2.
     4,
     5,
     1,
     2,
     3,
+    // At 23: of agent 3.
     1,
     2,
     3,
     4,
     5,
+    // At 28: in no part.
     99,
-    // 29: agent 3 steps, agent 2 leaves, agent 1 requests.
+    // At 29: agent 3 steps, agent 2 leaves, agent 1 requests.
     2,
     3,
     3,
     2,
     1,
     1,
+    // At 35: in no part.
     99,
     99,
-    // 37: identities 258, 3 and 772.
+    // At 37: identities 258, 3 and 772.
     1,
     2,
     0,
     3,
     3,
     4,
+    // At 43: in no part.
     99,
     99,
 ];
@@ -116,23 +127,11 @@ pub fn edited<const N: usize>(mut file: [u8; N], edits: &[Edit]) -> [u8; N] {
 
 // A file of any size under rule 1: events, identities and tables in this order, and no fault but the size.
 pub fn sized(heap: Global, agents: u8, cells: u8) -> Result<Vec<u8>, AllocError> {
-    let [tables_high, tables_low] = (16 + 2 * u16::from(agents)).to_be_bytes();
-    let header = [
-        1,
-        1,
-        agents,
-        cells,
-        0,
-        16,
-        tables_high,
-        tables_low,
-        0,
-        12,
-        0,
-        2,
-    ];
     let mut file = Vec::new(heap);
-    file.extend_from_slice(&header)?;
+    file.extend_from_slice(&[1, 1, agents, cells, 0, 16])?;
+    let tables = 16 + 2 * u16::from(agents);
+    file.extend_from_slice(&tables.to_be_bytes())?;
+    file.extend_from_slice(&[0, 12, 0, 2])?;
     // Agent 1 requests and steps.
     file.extend_from_slice(&[1, 1, 2, 1])?;
     for agent in 1..=agents {
