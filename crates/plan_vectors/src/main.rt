@@ -1,22 +1,21 @@
 // Reads the plan files that a list names, and prints the verdict on each.
+ghost use mathlib.Core.Path.{_≡_};
+ghost use Rattle.std.specs.Of.String.{string-bytes};
+ghost use Rattle.std.specs.Vec.{made};
+ghost use Rattle.plan_vectors.specs.Verdicts.{verdict-line};
 use plan::Plan;
+use plan::rule_asked;
 use refusal::RefusalDisplay;
 use std::alloc::AllocError;
 use std::alloc::Global;
 use std::fs;
 use std::io;
 
-// The rule that a file asks for, and rule 1 where it names none of the three.
-fn expected_rule(file: &[u8]) -> u8 {
-    match file {
-        [_, rule @ 1..=3, ..] => *rule,
-        _ => 1,
-    }
-}
-
 // The line of the refusal, or `accepted`.
-fn verdict(heap: Global, file: &[u8]) -> Result<String, AllocError> {
-    match Plan::decode(file, expected_rule(file)) {
+fn verdict(heap: Global, file: &[u8]) -> Result<String, AllocError>
+    ensures made { λ r. ⌜ made r (λ s. string-bytes s ≡ verdict-line (now (file .entry))) ⌝ }
+{
+    match Plan::decode(file, rule_asked(file)) {
         Ok(_) => String::from_str(heap, "accepted"),
         Err(refusal) => refusal.to_string(heap),
     }
