@@ -3,14 +3,15 @@ use mathlib.Core.Path.{_≡_, refl, sym, ap, _∙_}
 use mathlib.Core.Bool.{true, false}
 use mathlib.Core.List.{List}
 use mathlib.Core.Logic.{_⊎_, inl, inr, ⊎-elim}
-use Prim.Native.Nat.{ℕ, zero, suc, _+_, _≤_, _<_}
+use Prim.Native.Nat.{ℕ, zero, suc, _+_, _-_, _≤_, _<_}
 use native.Mathlib.Omega.{arith}
-use lib.ListN.{length}
+use lib.ListN.{length, getD, set}
 use Rattle.std.proofs.shelf.Counted.{length-map-counting, getD-map-counting}
+use Rattle.std.proofs.shelf.Lists.{same-lists, length-set, getD-set-same, getD-set-other}
 use Rattle.std.proofs.shelf.Maps.{nth-getD, nth-past}
 use Rattle.std.specs.declared.option.Option.{Option}
 use Rattle.std.specs.declared.option.Option.the-variants.{None, Some}
-use Rattle.std.proofs.shelf.Tests.{cases-lt}
+use Rattle.std.proofs.shelf.Tests.{cases-lt, cases-eq}
 use Rattle.numbers.specs.Names.{named, listed}
 use Rattle.numbers.specs.Rows.{within}
 use Rattle.numbers.proofs.RowLaws.{within-true, within-false}
@@ -51,3 +52,35 @@ named-out g n k e =
   where
     cases-le : (a b : ℕ) → (a ≤ b) ⊎ (b < a)
     cases-le a b = ⊎-elim inr inl (cases-lt b a)
+
+-- a list by its elements
+pub getD-listed : {A : Type 0} (g : ℕ → A) (n y : ℕ) (d : A) → 1 ≤ y → y ≤ n → getD (listed g n) (y - 1) d ≡ g y
+unfolding listed
+getD-listed g n y d a b = getD-map-counting g 1 n (y - 1) y d (omega arith) (omega arith)
+
+pub listed-same : {A : Type 0} (g h : ℕ → A) (n : ℕ) → ((z : ℕ) → 1 ≤ z → z ≤ n → g z ≡ h z) → listed g n ≡ listed h n
+listed-same g h n e =
+    let long = length-listed g n in
+    same-lists (listed g n) (listed h n) (length-listed g n ∙ sym (length-listed h n)) λ i d below.
+    let one : i + 1 - 1 ≡ i = omega arith in
+    ap (λ j. getD (listed g n) j d) (sym one) ∙ getD-listed g n (i + 1) d (omega arith) (omega arith) ∙ e (i + 1) (omega arith) (omega arith) ∙ sym (getD-listed h n (i + 1) d (omega arith) (omega arith)) ∙ ap (λ j. getD (listed h n) j d) one
+
+-- a change at one name
+pub listed-set : {A : Type 0} (g h : ℕ → A) (n y : ℕ) (k : A) → 1 ≤ y → y ≤ n → h y ≡ k → ((z : ℕ) → 1 ≤ z → z ≤ n → (z ≡ y → ⊥) → h z ≡ g z) → listed h n ≡ set (listed g n) (y - 1) k
+listed-set g h n y k a b here other =
+    let long = length-listed h n in
+    let also = length-listed g n in
+    same-lists (listed h n) (set (listed g n) (y - 1) k) (length-listed h n ∙ sym (length-set (listed g n) (y - 1) k ∙ length-listed g n)) λ i d below.
+    let one : i + 1 - 1 ≡ i = omega arith in
+    let at-i : getD (listed h n) i d ≡ h (i + 1) = ap (λ j. getD (listed h n) j d) (sym one) ∙ getD-listed h n (i + 1) d (omega arith) (omega arith) in
+    ⊎-elim
+    (λ same.
+    let this : i + 1 ≡ y = omega arith in
+    at-i ∙ ap h this ∙ here ∙ sym (ap (λ j. getD (set (listed g n) (y - 1) k) j d) same ∙ getD-set-same (listed g n) (y - 1) k d (omega arith)))
+    (λ apart.
+    at-i
+    ∙ other (i + 1) (omega arith) (omega arith) (λ e. apart (omega arith))
+    ∙ sym (getD-listed g n (i + 1) d (omega arith) (omega arith))
+    ∙ ap (λ j. getD (listed g n) j d) one
+    ∙ sym (getD-set-other (listed g n) (y - 1) i k d apart))
+    (cases-eq i (y - 1))
