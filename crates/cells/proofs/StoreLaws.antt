@@ -12,9 +12,10 @@ use Rattle.numbers.specs.Rows.{within}
 use Rattle.numbers.proofs.RowLaws.{within-true}
 use Rattle.refusal.specs.Checks.{_then_, Check, refuse-if}
 use Rattle.refusal.specs.declared.Refusal.{Refusal}
-use Rattle.refusal.specs.declared.Refusal.the-variants.{NoSuchCell}
+use Rattle.refusal.proofs.CheckLaws.{ok-then}
+use Rattle.refusal.specs.declared.Refusal.the-variants.{NoSuchCell, NoMark}
 use Rattle.cells.specs.declared.mark.Mark.{Mark}
-use Rattle.cells.specs.Marks.{same-mark, name-check, mark-check, mark-at, put, read-answer, write-answer, after-write, swap-answer, says-yes, after-swap}
+use Rattle.cells.specs.Marks.{lawful, same-mark, name-check, mark-check, mark-at, put, read-answer, write-answer, after-write, swap-answer, says-yes, after-swap}
 
 -- a check that passed found nothing
 passed : (b : Bool) (e : Refusal) → Ok tt ≡ refuse-if b e → b ≡ false
@@ -24,6 +25,14 @@ passed false e is = refl
 -- a name that was accepted is one
 pub accepted-name : (count y : ℕ) → Ok tt ≡ name-check count y → (1 ≤ y) × (y ≤ count)
 accepted-name count y is = within-true 1 count y (not-false (within 1 count y) (passed (not (within 1 count y)) (NoSuchCell y) is))
+
+-- a mark that was accepted is lawful
+pub accepted-mark : (k : Mark) → Ok tt ≡ mark-check k → lawful k ≡ true
+accepted-mark k is = not-false (lawful k) (passed (not (lawful k)) NoMark is)
+
+-- a read that was answered
+pub read-tells : (ms : List Mark) (y : ℕ) (k : Mark) → Ok k ≡ read-answer ms y → (Ok tt ≡ name-check (length ms) y) × (k ≡ mark-at ms y)
+read-tells ms y k is = let p = ok-then (name-check (length ms) y) (Ok (mark-at ms y)) k is in (sym (p .0), cc (p .1))
 
 module _ (ms : List Mark) (count y : ℕ) (long : count ≡ length ms) (name : Ok tt ≡ name-check count y) where
   named : Ok tt ≡ name-check (length ms) y

@@ -5,9 +5,9 @@ use mathlib.Core.List.{List}
 use mathlib.Core.Logic.{_⊎_, inl, inr, ⊎-elim}
 use Prim.Native.Nat.{ℕ, zero, suc, _+_, _-_, _≤_, _<_}
 use native.Mathlib.Omega.{arith}
-use lib.ListN.{length, getD, set}
+use lib.ListN.{length, getD, set, replicate}
 use Rattle.std.proofs.shelf.Counted.{length-map-counting, getD-map-counting}
-use Rattle.std.proofs.shelf.Lists.{same-lists, length-set, getD-set-same, getD-set-other}
+use Rattle.std.proofs.shelf.Lists.{same-lists, length-set, length-replicate, getD-set-same, getD-set-other, getD-replicate}
 use Rattle.std.proofs.shelf.Maps.{nth-getD, nth-past}
 use Rattle.std.specs.declared.option.Option.{Option}
 use Rattle.std.specs.declared.option.Option.the-variants.{None, Some}
@@ -84,3 +84,10 @@ listed-set g h n y k a b here other =
     ∙ ap (λ j. getD (listed g n) j d) one
     ∙ sym (getD-set-other (listed g n) (y - 1) i k d apart))
     (cases-eq i (y - 1))
+
+pub listed-constant : {A : Type 0} (x : A) (n : ℕ) → listed (λ _. x) n ≡ replicate n x
+listed-constant x n =
+    let long = length-listed (λ _. x) n in
+    same-lists (listed (λ _. x) n) (replicate n x) (length-listed (λ _. x) n ∙ sym (length-replicate n x)) λ i d below.
+    let one : i + 1 - 1 ≡ i = omega arith in
+    ap (λ j. getD (listed (λ _. x) n) j d) (sym one) ∙ getD-listed (λ _. x) n (i + 1) d (omega arith) (omega arith) ∙ sym (getD-replicate n i x d (omega arith))

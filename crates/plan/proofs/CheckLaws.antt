@@ -1,4 +1,4 @@
--- Laws of checks that come one after another. Assumes nothing.
+-- The answer to a file, from that of its header. Assumes nothing.
 use mathlib.Core.Path.{_≡_, refl, sym, ap, subst, _∙_}
 use mathlib.Core.List.{List}
 use Prim.Native.Nat.{ℕ}
@@ -6,15 +6,11 @@ use native.Mathlib.Omega.{arith}
 use Rattle.std.specs.declared.result.Result.{Result}
 use Rattle.std.specs.declared.result.Result.the-variants.{Ok, Err}
 use Rattle.refusal.specs.declared.Refusal.{Refusal}
+use Rattle.refusal.proofs.CheckLaws.{ok-then, err-then}
 use Rattle.plan.specs.declared.header.Header.{Header}
 use Rattle.plan.specs.Plans.{Sayings, plan-at}
 use Rattle.refusal.specs.Checks.{_then_, Check}
 use Rattle.plan.specs.Checks.{length-check, header-of, header-read, all-checks, decoded}
-
--- where checks came to an answer, the first passed
-pub ok-then : {A : Type 0} (c : Check) (r : Result A Refusal) (x : A) → Ok x ≡ (c then r) → (c ≡ Ok tt) × (Ok x ≡ r)
-ok-then (Ok u) r x e = (refl, e)
-ok-then (Err d) r x e = let z : _≡_ {A = ℕ} 0 1 = cc in absurd (omega arith)
 
 pub read-ok : (f : List ℕ) (h : Header) → Ok h ≡ header-read f → (length-check f ≡ Ok tt) × (h ≡ header-of f)
 read-ok f h e = let p = ok-then (length-check f) (Ok (header-of f)) h e in (p .0, cc (p .1))
@@ -28,9 +24,5 @@ decoded-after rule f h c read is =
     ∙ sym (ap (λ k. k then all-checks rule (header-of f) f then Ok (plan-at (header-of f) f)) (p .0))
 
 -- a file whose length was refused
-err-then : {A B : Type 0} (c : Check) (r : Result A Refusal) (s : Result B Refusal) (x : A) (e : Refusal) → r ≡ Ok x → Err e ≡ (c then r) → Err e ≡ (c then s)
-err-then (Ok u) r s x e ok is = let z : _≡_ {A = ℕ} 0 1 = cc in absurd (omega arith)
-err-then (Err d) r s x e ok is = let same : e ≡ d = cc in ap Err same
-
 pub read-refused : (rule : ℕ) (f : List ℕ) (e : Refusal) → Err e ≡ header-read f → Err e ≡ decoded rule f
 read-refused rule f e is = err-then (length-check f) (Ok (header-of f)) (all-checks rule (header-of f) f then Ok (plan-at (header-of f) f)) (header-of f) e refl is

@@ -6,17 +6,20 @@ use mathlib.Core.Logic.{_⊎_, inl, inr, ⊎-elim, _≢_}
 use Prim.Native.Nat.{ℕ, _+_, _-_, _*_, _/_, _%_, _≤_, _<_, min}
 use native.Mathlib.Omega.{arith}
 use lib.Dec.{eqb, leb}
-use lib.ListN.{length, getD, set}
+use lib.ListN.{length, getD, set, drop, replicate}
 use Rattle.std.proofs.shelf.Tests.{cond-true, cond-false, eq-eqb, ne-eqb, and-from, and-left, and-right, cases-eq, cases-order, lt-leb}
-use Rattle.std.proofs.shelf.Lists.{length-set, getD-set-same, getD-set-other}
+use Rattle.std.proofs.shelf.Lists.{length-set, length-append, length-drop, length-replicate, getD-set-same, getD-set-other, getD-append-left, getD-replicate, drop-more, set-at, replicate-more, append-assoc}
+use Rattle.std.specs.Results.{isOk}
+use Rattle.std.specs.declared.result.Result.the-variants.{Ok}
 use Rattle.numbers.specs.Rows.{within}
 use Rattle.numbers.specs.Names.{listed}
-use Rattle.numbers.proofs.NameLaws.{length-listed, getD-listed, listed-set}
+use Rattle.numbers.proofs.NameLaws.{length-listed, getD-listed, listed-same, listed-set, listed-constant}
 use Rattle.numbers.proofs.RowLaws.{within-from, within-true}
-use Rattle.cells.specs.Marks.{lawful, mark-at, put}
+use Rattle.cells.specs.Marks.{lawful, same-mark, name-check, mark-check, mark-at, put, write-answer, after-write, swap-answer, says-yes, after-swap}
+use Rattle.cells.proofs.StoreLaws.{accepted-name, accepted-mark, write-accepted, write-put, swap-accepted, swap-put}
 use Rattle.cells.specs.declared.mark.Mark.{Mark}
 use Rattle.cells.specs.declared.mark.Mark.the-variants.{Empty, Owner, Rung}
-use Rattle.record_file.specs.Records.{value-of, mark-by, mark-of, encoded, WellFormed, four, record-at, put-record, record-count, start, records}
+use Rattle.record_file.specs.Records.{value-of, mark-by, mark-of, encoded, WellFormed, four, record-at, put-record, record-count, start, records, emptied, bytes-written, bytes-swapped}
 
 -- four numbers are equal one by one
 pub four-same : {a b c d e f g h : ℕ} → a ≡ e → b ≡ f → c ≡ g → d ≡ h → _≡_ {A = List ℕ} (a ∷ b ∷ c ∷ d ∷ []) (e ∷ f ∷ g ∷ h ∷ [])
@@ -166,3 +169,72 @@ module _ (f : List ℕ) (y : ℕ) (low : 1 ≤ y) (high : y ≤ record-count (le
       whole Empty = refl
       whole (Owner i) = refl
       whole (Rung r) = refl
+
+-- a call whose name was accepted
+module _ (f : List ℕ) (n y : ℕ) (counted : n ≡ length (records f)) (name : Ok tt ≡ name-check n y) where
+  pub inside : (1 ≤ y) × (y ≤ record-count (length f))
+  inside = let w = accepted-name n y name in (w .0, subst (λ c. y ≤ c) (counted ∙ sym (count-is f)) (w .1))
+
+  pub room : start y + 4 ≤ length f
+  room = room-for f y (inside .0) (inside .1)
+
+  pub read : record-at f (start y) ≡ mark-at (records f) y
+  read = there f y (inside .0) (inside .1)
+
+  -- all that a write says, of the bytes g afterwards
+  pub record Written (k : Mark) (g : List ℕ) : Type 0 where
+    pub value : Ok tt ≡ write-answer (records f) y k
+    pub after : records g ≡ after-write (records f) y k
+    pub bytes : g ≡ bytes-written f y k
+
+  pub written : (k : Mark) (g : List ℕ) → Ok tt ≡ mark-check k → g ≡ put-record f (start y) (encoded k) → Written k g
+  written k g good is =
+      let value = write-accepted (records f) n y counted name k good in
+      record {
+        value = value;
+        after = write-put (records f) n y counted name k (records g) good (ap records is ∙ changes f y (inside .0) (inside .1) k (accepted-mark k good));
+        bytes = is ∙ ap (λ a. cond (isOk a) (put-record f (start y) (encoded k)) f) value;
+      }
+
+  -- all that a swap says
+  pub record Swapped (old new : Mark) (b : Bool) (g : List ℕ) : Type 0 where
+    pub value : Ok b ≡ swap-answer (records f) y old new
+    pub after : records g ≡ after-swap (records f) y old new
+    pub bytes : g ≡ bytes-swapped f y old new
+
+  pub swapped : (old new : Mark) (b : Bool) (g : List ℕ) → Ok tt ≡ mark-check old → Ok tt ≡ mark-check new → b ≡ same-mark (record-at f (start y)) old → g ≡ cond b (put-record f (start y) (encoded new)) f → Swapped old new b g
+  swapped old new b g good-old good-new is stored =
+      let found = is ∙ ap (λ k. same-mark k old) read in
+      let value = swap-accepted (records f) n y counted name old new b good-old good-new found in
+      record {
+        value = value;
+        after = swap-put (records f) n y counted name old new b good-old good-new found (records g) (ap records stored ∙ both b);
+        bytes = stored ∙ ap (λ a. cond (says-yes a) (put-record f (start y) (encoded new)) f) value;
+      }
+    where
+      both : (b : Bool) → records (cond b (put-record f (start y) (encoded new)) f) ≡ cond b (put (records f) y new) (records f)
+      both true = changes f y (inside .0) (inside .1) new (accepted-mark new good-new)
+      both false = refl
+
+-- clearing byte by byte
+pub clear-more : (f : List ℕ) (i : ℕ) → i < length f → set (emptied f i) i 0 ≡ emptied f (i + 1)
+clear-more f i less =
+    ap (λ r. set (replicate i 0 ++ r) i 0) (drop-more f i 0 less)
+    ∙ set-at (replicate i 0) (getD f i 0) (drop (i + 1) f) 0 i (length-replicate i 0)
+    ∙ sym (append-assoc (replicate i 0) (0 ∷ []) (drop (i + 1) f))
+    ∙ ap (λ r. r ++ drop (i + 1) f) (replicate-more i 0)
+
+-- the bytes that were cleared
+zero-at : (f : List ℕ) (n i : ℕ) → i < n → getD (emptied f n) i 0 ≡ 0
+zero-at f n i less =
+    getD-append-left (replicate n 0) (drop n f) 0 i (subst (λ k. i < k) (sym (length-replicate n 0)) less) ∙ getD-replicate n i 0 0 less
+
+-- a cleared file has as many records, and all are empty
+pub cleared : (f : List ℕ) → records (emptied f (4 * record-count (length f))) ≡ replicate (record-count (length f)) Empty
+cleared f =
+    let c = record-count (length f) in
+    let g = emptied f (4 * c) in
+    let long : length g ≡ length f = length-append (replicate (4 * c) 0) (drop (4 * c) f) ∙ ap (λ n. n + length (drop (4 * c) f)) (length-replicate (4 * c) 0) ∙ ap (λ n. 4 * c + n) (length-drop (4 * c) f) ∙ omega arith in
+    ap (λ n. listed (λ y. record-at g (start y)) n) (ap record-count long)
+    ∙ listed-same (λ y. record-at g (start y)) (λ _. Empty) c (λ z a b. ap mark-of (four-same (zero-at f (4 * c) (start z) (omega arith)) (zero-at f (4 * c) (start z + 1) (omega arith)) (zero-at f (4 * c) (start z + 2) (omega arith)) (zero-at f (4 * c) (start z + 3) (omega arith))))
+    ∙ listed-constant Empty c

@@ -1,11 +1,11 @@
 // What a record file does as a store.
 ghost use mathlib.Core.Path.{_≡_};
 ghost use denote.Ref.{name as followed, now};
-ghost use Prim.Native.Nat.{_≤_, _*_};
+ghost use Prim.Native.Nat.{_≤_, _+_, _*_};
 ghost use lib.ListN.{length, replicate};
 ghost use Rattle.cells.specs.declared.mark.Mark.the-variants.{Empty};
 ghost use Rattle.cells.specs.Marks.{write-answer, after-write, swap-answer, after-swap};
-ghost use Rattle.record_file.specs.Records.{record-count, records, emptied, bytes-written, bytes-swapped};
+ghost use Rattle.record_file.specs.Records.{record-at, record-count, start, records, emptied, bytes-written, bytes-swapped};
 use crate::file::RecordFile;
 use crate::record::encode_mark;
 use crate::record::read_record;
@@ -44,6 +44,15 @@ impl<'a> RecordFile<'a> {
         clear(file, 4 * count);
         RecordFile { file }
     }
+
+    // The mark of the record with a name.
+    fn mark_at(&self, name: usize) -> Mark
+        requires low { ⌜ 1 ≤ name ⌝ }
+        requires room { ⌜ start name + 4 ≤ length (now (now self .file)) ⌝ }
+        ensures value { λ r. ⌜ r ≡ record-at (now (now (self .entry) .file)) (start name) ⌝ }
+    {
+        read_record(self.file, 4 * (name - 1))
+    }
 }
 
 pub impl CellStore for RecordFile<'_> as RecordFileStore {
@@ -57,7 +66,7 @@ pub impl CellStore for RecordFile<'_> as RecordFileStore {
 
     fn read(&self, name: usize) -> Result<Mark, Refusal> {
         check_name(name, self.count())?;
-        Ok(read_record(self.file, 4 * (name - 1)))
+        Ok(self.mark_at(name))
     }
 
     fn write(&mut self, name: usize, mark: Mark) -> Result<(), Refusal>
@@ -81,8 +90,7 @@ pub impl CellStore for RecordFile<'_> as RecordFileStore {
         check_name(name, self.count())?;
         check_mark(old)?;
         check_mark(new)?;
-        let there = read_record(self.file, 4 * (name - 1));
-        let found = there.is(old);
+        let found = self.mark_at(name).is(old);
         if found {
             write_record(self.file, 4 * (name - 1), encode_mark(new));
         }
