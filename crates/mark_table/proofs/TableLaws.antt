@@ -12,17 +12,17 @@ use Rattle.cells.proofs.StoreLaws.{accepted-name}
 use Rattle.mark_table.specs.Tables.{table-marks}
 use Rattle.mark_table.specs.declared.table.MarkTable.{MarkTable}
 
-pub long : (t : MarkTable) → t .count ≡ length (table-marks t)
-long t = sym (length-take-le (t .count) (t .room) (omega (arith, t .few, t .full)))
+long : (t : MarkTable) → t .cells ≡ length (table-marks t)
+long t = sym (length-take-le (t .cells) (t .room) (omega (arith, t .few, t .full)))
 
-module _ (t : MarkTable) (y : ℕ) (name : Ok tt ≡ name-check (t .count) y) where
-  below : y - 1 < t .count
-  below = let w = accepted-name (t .count) y name in omega (arith, w .0, w .1)
+module _ (t : MarkTable) (n y : ℕ) (counted : n ≡ length (table-marks t)) (name : Ok tt ≡ name-check n y) where
+  below : y - 1 < t .cells
+  below = let w = accepted-name n y name in omega (arith, w .0, w .1, counted, long t)
 
   -- the mark in the room at a name
   pub there : getD (t .room) (y - 1) Empty ≡ mark-at (table-marks t) y
-  there = sym (getD-take (t .count) (t .room) (y - 1) Empty below)
+  there = sym (getD-take (t .cells) (t .room) (y - 1) Empty below)
 
   -- a change in the room is a change of the marks
-  pub changes : (k : Mark) → take (t .count) (set (t .room) (y - 1) k) ≡ put (table-marks t) y k
-  changes k = take-set-lt (t .count) (t .room) (y - 1) k below
+  pub changes : (k : Mark) → take (t .cells) (set (t .room) (y - 1) k) ≡ put (table-marks t) y k
+  changes k = take-set-lt (t .cells) (t .room) (y - 1) k below

@@ -5,4 +5,4 @@ use Rattle.cells.specs.declared.mark.Mark.{Mark}
 use Rattle.mark_table.specs.declared.table.MarkTable.{MarkTable}
 
 abbrev pub table-marks : MarkTable → List Mark
-table-marks t = take (t .count) (t .room)
+table-marks t = take (t .cells) (t .room)

@@ -19,7 +19,7 @@ impl MarkTable {
         let room = [Mark::Empty; 64];
         MarkTable {
             room,
-            count: count.min(64),
+            cells: count.min(64),
         }
     }
 }
@@ -30,23 +30,23 @@ pub impl CellStore for MarkTable as MarkTableStore {
     ghost lender = { λ _. 0 };
 
     fn count(&self) -> usize {
-        self.count
+        self.cells
     }
 
     fn read(&self, name: usize) -> Result<Mark, Refusal> {
-        check_name(name, self.count)?;
+        check_name(name, self.count())?;
         Ok(self.room[name - 1])
     }
 
     fn write(&mut self, name: usize, mark: Mark) -> Result<(), Refusal> {
-        check_name(name, self.count)?;
+        check_name(name, self.count())?;
         check_mark(mark)?;
         self.room[name - 1] = mark;
         Ok(())
     }
 
     fn swap(&mut self, name: usize, old: Mark, new: Mark) -> Result<bool, Refusal> {
-        check_name(name, self.count)?;
+        check_name(name, self.count())?;
         check_mark(old)?;
         check_mark(new)?;
         let there = self.room[name - 1];
