@@ -1,10 +1,12 @@
 -- Marks, and what a store of cells answers and becomes. Assumes nothing.
 use mathlib.Core.Bool.{Bool, true, false, cond, not}
-use mathlib.Core.List.{List}
+use mathlib.Core.List.{List, _++_}
 use Prim.Native.Nat.{ℕ, _-_}
+use lib.Chars.{codes}
 use lib.Dec.{eqb}
 use lib.ListN.{length, getD, set}
 use Rattle.std.specs.Results.{isOk}
+use Rattle.std.specs.Written.{decimal}
 use Rattle.std.specs.declared.result.Result.{Result}
 use Rattle.std.specs.declared.result.Result.the-variants.{Ok, Err}
 use Rattle.numbers.specs.Rows.{within}
@@ -70,3 +72,9 @@ after-swap ms y old new = cond (says-yes (swap-answer ms y old new)) (put ms y n
 -- a write and then a read of the same name: the refusal, or the mark that was put
 abbrev pub read-back : List Mark → ℕ → Mark → Result Mark Refusal
 read-back ms y k = write-answer ms y k then Ok k
+
+-- how a mark is shown
+abbrev pub mark-words : Mark → List ℕ
+mark-words Empty = codes "empty"
+mark-words (Owner i) = codes "owner " ++ decimal i
+mark-words (Rung r) = codes "rung " ++ decimal r

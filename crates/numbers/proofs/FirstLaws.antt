@@ -1,6 +1,6 @@
 -- Laws of `first-of`. Assumes nothing.
 use mathlib.Core.Path.{_≡_, refl, sym, ap, subst, _∙_}
-use mathlib.Core.Bool.{Bool, true, false}
+use mathlib.Core.Bool.{Bool, true, false, cond}
 use mathlib.Core.Logic.{_⊎_, inl, inr, ⊎-elim}
 use Prim.Native.Nat.{ℕ, zero, suc, _+_, _≤_, _<_}
 use native.Mathlib.Omega.{arith}
@@ -90,3 +90,12 @@ none-up-to test n h = first-none test 1 n (1 + n) refl (λ k a b. h k a (omega a
 pub first-up-to : (test : ℕ → Bool) (n i : ℕ) → 1 ≤ i → i ≤ n → test i ≡ true → NonePasses test 1 i → first-of test 1 n ≡ Some i
 first-up-to test n i a b here before =
     first-found test 1 n (1 + n) i refl (record { from = a; below = omega arith; passes = here; first = before })
+
+-- tests that agree find the same
+pub first-same : (test other : ℕ → Bool) (start count end : ℕ) → start + count ≡ end → ((k : ℕ) → start ≤ k → k < end → test k ≡ other k) → first-of test start count ≡ first-of other start count
+unfolding first-of
+first-same test other start zero end e h = refl
+first-same test other start (suc count) end e h =
+    let here = h start (le-refl start) (omega arith) in
+    let later = first-same test other (start + 1) count end (omega arith) (λ k a b. h k (omega arith) b) in
+    λ i. cond (here i) (Some start) (later i)
