@@ -1,12 +1,13 @@
 -- Laws of lists with names from 1 on. Assumes nothing.
-use mathlib.Core.Path.{_≡_, refl, sym, ap, _∙_}
+use mathlib.Core.Path.{_≡_, refl, sym, ap, subst, _∙_}
 use mathlib.Core.Bool.{true, false}
 use mathlib.Core.List.{List}
 use mathlib.Core.Logic.{_⊎_, inl, inr, ⊎-elim}
-use Prim.Native.Nat.{ℕ, zero, suc, _+_, _≤_, _<_}
+use Prim.Native.Nat.{ℕ, zero, suc, _+_, _-_, _≤_, _<_}
 use native.Mathlib.Omega.{arith}
-use lib.ListN.{length}
+use lib.ListN.{length, getD}
 use Rattle.std.proofs.shelf.Counted.{length-map-counting, getD-map-counting}
+use Rattle.std.proofs.shelf.Lists.{ext-getD}
 use Rattle.std.proofs.shelf.Maps.{nth-getD, nth-past}
 use Rattle.std.specs.declared.option.Option.{Option}
 use Rattle.std.specs.declared.option.Option.the-variants.{None, Some}
@@ -18,6 +19,18 @@ use Rattle.numbers.proofs.RowLaws.{within-true, within-false}
 pub length-listed : {A : Type 0} (g : ℕ → A) (n : ℕ) → length (listed g n) ≡ n
 unfolding listed
 length-listed g n = length-map-counting g 1 n
+
+pub getD-listed : {A : Type 0} (g : ℕ → A) (n k : ℕ) (d : A) → 1 ≤ k → k ≤ n → getD (listed g n) (k - 1) d ≡ g k
+unfolding listed
+getD-listed g n k d a b = getD-map-counting g 1 n (k - 1) k d (omega arith) (omega arith)
+
+-- a list with these elements is that list
+pub listed-from : {A : Type 0} (g : ℕ → A) (n : ℕ) (d : A) (xs : List A) → length xs ≡ n → ((k : ℕ) → 1 ≤ k → k ≤ n → getD xs (k - 1) d ≡ g k) → xs ≡ listed g n
+listed-from g n d xs long h =
+    ext-getD d xs (listed g n) (long ∙ sym (length-listed g n))
+    (λ i less.
+    let back : i + 1 - 1 ≡ i = omega arith in
+    subst (λ j. getD xs j d ≡ getD (listed g n) j d) back (h (i + 1) (omega arith) (omega arith) ∙ sym (getD-listed g n (i + 1) d (omega arith) (omega arith))))
 
 pub named-listed : {A : Type 0} (g : ℕ → A) (n k : ℕ) → 1 ≤ k → k ≤ n → named (listed g n) k ≡ Some (g k)
 unfolding named listed
