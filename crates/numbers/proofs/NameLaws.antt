@@ -1,5 +1,5 @@
 -- Laws of lists with names from 1 on. Assumes nothing.
-use mathlib.Core.Path.{_≡_, refl, sym, ap, _∙_}
+use mathlib.Core.Path.{_≡_, refl, sym, ap, subst, _∙_}
 use mathlib.Core.Bool.{true, false}
 use mathlib.Core.List.{List}
 use mathlib.Core.Logic.{_⊎_, inl, inr, ⊎-elim}
@@ -7,7 +7,7 @@ use Prim.Native.Nat.{ℕ, zero, suc, _+_, _-_, _≤_, _<_}
 use native.Mathlib.Omega.{arith}
 use lib.ListN.{length, getD, set, replicate}
 use Rattle.std.proofs.shelf.Counted.{length-map-counting, getD-map-counting}
-use Rattle.std.proofs.shelf.Lists.{same-lists, length-set, length-replicate, getD-set-same, getD-set-other, getD-replicate}
+use Rattle.std.proofs.shelf.Lists.{ext-getD, length-set, length-replicate, getD-set-same, getD-set-other, getD-replicate}
 use Rattle.std.proofs.shelf.Maps.{nth-getD, nth-past}
 use Rattle.std.specs.declared.option.Option.{Option}
 use Rattle.std.specs.declared.option.Option.the-variants.{None, Some}
@@ -19,6 +19,18 @@ use Rattle.numbers.proofs.RowLaws.{within-true, within-false}
 pub length-listed : {A : Type 0} (g : ℕ → A) (n : ℕ) → length (listed g n) ≡ n
 unfolding listed
 length-listed g n = length-map-counting g 1 n
+
+pub getD-listed : {A : Type 0} (g : ℕ → A) (n k : ℕ) (d : A) → 1 ≤ k → k ≤ n → getD (listed g n) (k - 1) d ≡ g k
+unfolding listed
+getD-listed g n k d a b = getD-map-counting g 1 n (k - 1) k d (omega arith) (omega arith)
+
+-- a list with these elements is that list
+pub listed-from : {A : Type 0} (g : ℕ → A) (n : ℕ) (d : A) (xs : List A) → length xs ≡ n → ((k : ℕ) → 1 ≤ k → k ≤ n → getD xs (k - 1) d ≡ g k) → xs ≡ listed g n
+listed-from g n d xs long h =
+    ext-getD d xs (listed g n) (long ∙ sym (length-listed g n))
+    (λ i less.
+    let back : i + 1 - 1 ≡ i = omega arith in
+    subst (λ j. getD xs j d ≡ getD (listed g n) j d) back (h (i + 1) (omega arith) (omega arith) ∙ sym (getD-listed g n (i + 1) d (omega arith) (omega arith))))
 
 pub named-listed : {A : Type 0} (g : ℕ → A) (n k : ℕ) → 1 ≤ k → k ≤ n → named (listed g n) k ≡ Some (g k)
 unfolding named listed
@@ -53,41 +65,21 @@ named-out g n k e =
     cases-le : (a b : ℕ) → (a ≤ b) ⊎ (b < a)
     cases-le a b = ⊎-elim inr inl (cases-lt b a)
 
--- a list by its elements
-pub getD-listed : {A : Type 0} (g : ℕ → A) (n y : ℕ) (d : A) → 1 ≤ y → y ≤ n → getD (listed g n) (y - 1) d ≡ g y
-unfolding listed
-getD-listed g n y d a b = getD-map-counting g 1 n (y - 1) y d (omega arith) (omega arith)
-
+-- elements that agree make the same list
 pub listed-same : {A : Type 0} (g h : ℕ → A) (n : ℕ) → ((z : ℕ) → 1 ≤ z → z ≤ n → g z ≡ h z) → listed g n ≡ listed h n
-listed-same g h n e =
-    let long = length-listed g n in
-    same-lists (listed g n) (listed h n) (length-listed g n ∙ sym (length-listed h n)) λ i d below.
-    let one : i + 1 - 1 ≡ i = omega arith in
-    ap (λ j. getD (listed g n) j d) (sym one) ∙ getD-listed g n (i + 1) d (omega arith) (omega arith) ∙ e (i + 1) (omega arith) (omega arith) ∙ sym (getD-listed h n (i + 1) d (omega arith) (omega arith)) ∙ ap (λ j. getD (listed h n) j d) one
+listed-same g h n e = listed-from h n (g 1) (listed g n) (length-listed g n) (λ z a b. getD-listed g n z (g 1) a b ∙ e z a b)
 
 -- a change at one name
 pub listed-set : {A : Type 0} (g h : ℕ → A) (n y : ℕ) (k : A) → 1 ≤ y → y ≤ n → h y ≡ k → ((z : ℕ) → 1 ≤ z → z ≤ n → (z ≡ y → ⊥) → h z ≡ g z) → listed h n ≡ set (listed g n) (y - 1) k
 listed-set g h n y k a b here other =
-    let long = length-listed h n in
-    let also = length-listed g n in
-    same-lists (listed h n) (set (listed g n) (y - 1) k) (length-listed h n ∙ sym (length-set (listed g n) (y - 1) k ∙ length-listed g n)) λ i d below.
-    let one : i + 1 - 1 ≡ i = omega arith in
-    let at-i : getD (listed h n) i d ≡ h (i + 1) = ap (λ j. getD (listed h n) j d) (sym one) ∙ getD-listed h n (i + 1) d (omega arith) (omega arith) in
+    let long = length-listed g n in
+    sym
+    (listed-from h n k (set (listed g n) (y - 1) k) (length-set (listed g n) (y - 1) k ∙ length-listed g n)
+    (λ z c d.
     ⊎-elim
-    (λ same.
-    let this : i + 1 ≡ y = omega arith in
-    at-i ∙ ap h this ∙ here ∙ sym (ap (λ j. getD (set (listed g n) (y - 1) k) j d) same ∙ getD-set-same (listed g n) (y - 1) k d (omega arith)))
-    (λ apart.
-    at-i
-    ∙ other (i + 1) (omega arith) (omega arith) (λ e. apart (omega arith))
-    ∙ sym (getD-listed g n (i + 1) d (omega arith) (omega arith))
-    ∙ ap (λ j. getD (listed g n) j d) one
-    ∙ sym (getD-set-other (listed g n) (y - 1) i k d apart))
-    (cases-eq i (y - 1))
+    (λ same. ap (λ j. getD (set (listed g n) (y - 1) k) (j - 1) k) same ∙ getD-set-same (listed g n) (y - 1) k k (omega arith) ∙ sym here ∙ ap h (sym same))
+    (λ apart. getD-set-other (listed g n) (y - 1) (z - 1) k k (λ e. apart (omega arith)) ∙ getD-listed g n z k c d ∙ sym (other z c d apart))
+    (cases-eq z y)))
 
 pub listed-constant : {A : Type 0} (x : A) (n : ℕ) → listed (λ _. x) n ≡ replicate n x
-listed-constant x n =
-    let long = length-listed (λ _. x) n in
-    same-lists (listed (λ _. x) n) (replicate n x) (length-listed (λ _. x) n ∙ sym (length-replicate n x)) λ i d below.
-    let one : i + 1 - 1 ≡ i = omega arith in
-    ap (λ j. getD (listed (λ _. x) n) j d) (sym one) ∙ getD-listed (λ _. x) n (i + 1) d (omega arith) (omega arith) ∙ sym (getD-replicate n i x d (omega arith))
+listed-constant x n = sym (listed-from (λ _. x) n x (replicate n x) (length-replicate n x) (λ z a b. getD-replicate n (z - 1) x x (omega arith)))

@@ -11,7 +11,7 @@ use Rattle.std.specs.declared.option.Option.{Option}
 use Rattle.std.specs.declared.option.Option.the-variants.{None, Some}
 use Rattle.numbers.specs.First.{first-of, NonePasses, IsFirst}
 use Rattle.numbers.specs.Rows.{within, repeats, misfit, first-misfit, Distinct, EveryNumber, FirstMisfit}
-use Rattle.numbers.proofs.Pigeonhole.{every-number}
+use Rattle.numbers.proofs.Pigeonhole.{apart-both, every-number}
 use Rattle.numbers.proofs.FirstLaws.{first-cases, first-none, first-found, first-tells-none, first-tells-some}
 
 -- within, as an order
@@ -156,3 +156,35 @@ module _ (row : ℕ → ℕ) where
     pub misfit-from-first : (count k : ℕ) → FirstMisfit row most count k → first-misfit row most count ≡ Some k
     misfit-from-first count k h =
         first-misfit-some count k (h .from-one) (h .up-to) (misfit-true k (λ w. let m = h .here w in repeats-here k (m .0) (m .1) (m .2) (m .3))) (λ j a b. distinct-fits (k - 1) (h .before) j a (omega arith))
+
+    -- a row passes exactly if it has no misfit
+    pub passes : (count : ℕ) → (isSome (first-misfit row most count) ≡ false) ↔ Distinct row most count
+    passes count = (
+      λ e. first-misfit-tells-none count (none-from (first-misfit row most count) e),
+      λ d. ap isSome (first-misfit-none count (distinct-fits count d)),
+    )
+      where
+        none-from : (o : Option ℕ) → isSome o ≡ false → o ≡ None
+        none-from None e = refl
+        none-from (Some k) e = absurd (true≢false e)
+
+-- the numbers from 1 on, each at its place
+pub distinct-places : (count : ℕ) → Distinct (λ k. k) count count
+distinct-places count = record { inside = λ k a b. (a, b); apart = λ j k a b l e. omega arith }
+
+-- a row with the same numbers
+pub distinct-same : (row other : ℕ → ℕ) (most count : ℕ) → ((k : ℕ) → 1 ≤ k → k ≤ count → row k ≡ other k) → Distinct row most count → Distinct other most count
+distinct-same row other most count same d = record {
+  inside = λ k a b. subst (λ v. (1 ≤ v) × (v ≤ most)) (same k a b) (d .inside k a b);
+  apart = λ j k a b l e. d .apart j k a b l (same j a (omega arith) ∙ e ∙ sym (same k (omega arith) l));
+}
+
+-- one row after another
+pub distinct-composed : (row other : ℕ → ℕ) (count : ℕ) → Distinct row count count → Distinct other count count → Distinct (λ k. other (row k)) count count
+distinct-composed row other count d f = record {
+  inside = λ k a b. let w = d .inside k a b in f .inside (row k) (w .0) (w .1);
+  apart = λ j k a b l e.
+      let v = d .inside j a (omega arith) in
+      let w = d .inside k (omega arith) l in
+      d .apart j k a b l (apart-both other count count (row j) (row k) f (v .0) (v .1) (w .0) (w .1) e);
+}

@@ -1,0 +1,2 @@
+pub mod Renumberings
+pub mod Stores
