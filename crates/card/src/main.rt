@@ -55,7 +55,7 @@ fn agreeing<S: CellStore, T: CellStore>(one: &S, other: &T) -> usize {
 }
 
 // The names backwards: the first is the last below.
-fn turned<S: CellStore>(store: S, row: &mut Vec<usize>) -> Result<Renumbered<S>, AnyError> {
+fn turned<S: CellStore + Drop>(store: S, row: &mut Vec<usize>) -> Result<Renumbered<S>, AnyError> {
     let mut above = Renumbered::new(store);
     row.clear();
     for name in (1..=above.count()).rev() {

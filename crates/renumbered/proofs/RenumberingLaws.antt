@@ -1,6 +1,6 @@
 -- Laws of cells by other names. Assumes nothing.
 use mathlib.Core.Path.{_≡_, refl, sym, ap, subst, _∙_}
-use mathlib.Core.Bool.{true, false, _&&_}
+use mathlib.Core.Bool.{Bool, true, false, not, _&&_}
 use mathlib.Core.List.{List}
 use mathlib.Core.Logic.{⊎-elim}
 use Prim.Native.Nat.{ℕ, _-_, _≤_}
@@ -8,34 +8,57 @@ use native.Mathlib.Omega.{arith}
 use lib.Dec.{eqb}
 use lib.ListN.{length}
 use Rattle.std.proofs.shelf.Lists.{length-set, getD-set-same, getD-set-other}
-use Rattle.std.proofs.shelf.Tests.{cases-eq, eq-eqb, ne-eqb, and-from, and-left, and-right, cond-true, cond-false}
-use Rattle.numbers.specs.Rows.{within, Distinct}
+use Rattle.std.proofs.shelf.Tests.{cases-eq, cases-bool, not-true, eq-eqb, ne-eqb, and-from, and-left, and-right, cond-true, cond-false}
+use Rattle.std.specs.Options.{isSome}
+use Rattle.numbers.specs.Rows.{within, first-misfit, Distinct}
 use Rattle.numbers.proofs.NameLaws.{length-listed, getD-listed, listed-from}
 use Rattle.numbers.proofs.Pigeonhole.{apart-both}
-use Rattle.numbers.proofs.RowLaws.{within-from, distinct-places, distinct-same}
+use Rattle.numbers.proofs.RowLaws.{passes, within-from, distinct-places, distinct-same}
 use Rattle.cells.specs.Marks.{mark-at, put}
 use Rattle.cells.specs.declared.mark.Mark.{Mark}
 use Rattle.cells.specs.declared.mark.Mark.the-variants.{Empty}
-use Rattle.renumbered.specs.Renumberings.{entry, sigma, renumbered-marks}
+use Rattle.renumbered.specs.Renumberings.{entry, arranged, sigma, renumbered-marks}
+
+-- a table that is arranged, and one that is not
+pub arranged-distinct : (names : List ℕ) (count : ℕ) → arranged names count ≡ true → Distinct (entry names) count count
+unfolding arranged
+arranged-distinct names count e = passes (entry names) count count .0 (not-true (isSome (first-misfit (entry names) count count)) e)
+
+pub distinct-arranged : (names : List ℕ) (count : ℕ) → Distinct (entry names) count count → arranged names count ≡ true
+unfolding arranged
+distinct-arranged names count d = ap not (passes (entry names) count count .1 d)
 
 module _ (names : List ℕ) (count c : ℕ) where
-  pub sigma-in : (y : ℕ) → count ≡ c → within 1 c y ≡ true → sigma names count c y ≡ entry names y
+  abbrev counts : ℕ → Bool
+  counts y = within 1 c y && arranged names count
+
+  pub sigma-in : (y : ℕ) → count ≡ c → within 1 c y ≡ true → arranged names count ≡ true → sigma names count c y ≡ entry names y
   unfolding sigma
-  sigma-in y e w = cond-true (eqb count c && within 1 c y) _ _ (and-from (eqb count c) (within 1 c y) (eq-eqb count c e) w)
+  sigma-in y e w good =
+      cond-true (eqb count c && counts y) _ _ (and-from (eqb count c) (counts y) (eq-eqb count c e) (and-from (within 1 c y) (arranged names count) w good))
 
   pub sigma-other : (y : ℕ) → (count ≡ c → ⊥) → sigma names count c y ≡ y
   unfolding sigma
-  sigma-other y n = cond-false (eqb count c && within 1 c y) _ _ (and-left (eqb count c) (within 1 c y) (ne-eqb count c n))
+  sigma-other y n = cond-false (eqb count c && counts y) _ _ (and-left (eqb count c) (counts y) (ne-eqb count c n))
 
   pub sigma-out : (y : ℕ) → within 1 c y ≡ false → sigma names count c y ≡ y
   unfolding sigma
-  sigma-out y w = cond-false (eqb count c && within 1 c y) _ _ (and-right (eqb count c) (within 1 c y) w)
+  sigma-out y w = cond-false (eqb count c && counts y) _ _ (and-right (eqb count c) (counts y) (and-left (within 1 c y) (arranged names count) w))
+
+  pub sigma-disordered : (y : ℕ) → arranged names count ≡ false → sigma names count c y ≡ y
+  unfolding sigma
+  sigma-disordered y bad = cond-false (eqb count c && counts y) _ _ (and-right (eqb count c) (counts y) (and-right (within 1 c y) (arranged names count) bad))
 
   -- the names from 1 to c go to these names, each once
-  pub sigma-distinct : Distinct (entry names) count count → Distinct (sigma names count c) c c
-  sigma-distinct d =
+  pub sigma-distinct : Distinct (sigma names count c) c c
+  sigma-distinct =
       ⊎-elim
-      (λ same. distinct-same (entry names) (sigma names count c) c c (λ y a b. sym (sigma-in y same (within-from 1 c y a b))) (subst (λ n. Distinct (entry names) n n) same d))
+      (λ same.
+      ⊎-elim
+      (λ good.
+      distinct-same (entry names) (sigma names count c) c c (λ y a b. sym (sigma-in y same (within-from 1 c y a b) good)) (subst (λ n. Distinct (entry names) n n) same (arranged-distinct names count good)))
+      (λ bad. distinct-same (λ y. y) (sigma names count c) c c (λ y a b. sym (sigma-disordered y bad)) (distinct-places c))
+      (cases-bool (arranged names count)))
       (λ other. distinct-same (λ y. y) (sigma names count c) c c (λ y a b. sym (sigma-other y other)) (distinct-places c))
       (cases-eq count c)
 

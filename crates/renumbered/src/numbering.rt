@@ -1,20 +1,21 @@
 // The names that the store below has for the names above.
 ghost use mathlib.Core.Path.{_≡_};
-ghost use mathlib.Core.Bool.{false};
 ghost use Prim.Native.Nat.{ℕ, _≤_};
-ghost use Rattle.std.specs.Options.{isSome};
-ghost use Rattle.numbers.specs.Rows.{first-misfit, Distinct};
-ghost use Rattle.renumbered.specs.Renumberings.{entry, sigma};
+ghost use Rattle.numbers.specs.Rows.{Distinct};
+ghost use Rattle.renumbered.specs.Renumberings.{entry, arranged, sigma};
+use crate::rows::Names;
+use crate::rows::NamesRow;
 use numbers::names::is_name;
 use numbers::rows::Row;
+use numbers::rows::first_misfit;
 
-// For each of the names from 1 to `count` one of these names, each once.
+// For each of the names from 1 to `count` one of these names, each once. Only the functions below see to that: a type
+// with an invariant could not stand beside the lent bytes of a store, so a table that is no such arrangement counts as
+// one that leaves every name as it is.
 #[derive(Clone, Copy)]
 pub struct Numbering {
     names: [u8; 64],
-    count: usize,
-    ghost small: { count ≤ 64 },
-    ghost arranged: { isSome (first-misfit (entry names) count count) ≡ false },
+    count: u16,
 }
 
 impl Numbering {
@@ -29,10 +30,15 @@ impl Numbering {
         for i in 0..count {
             names[i as usize] = row.number_at(i + 1) as u8;
         }
-        Numbering {
-            names,
-            count: count as usize,
-        }
+        Numbering { names, count }
+    }
+
+    // Whether the table holds each of its names once.
+    fn is_arranged(&self) -> bool
+        ensures value { λ r. ⌜ r ≡ arranged (now (self .entry) .names) (now (self .entry) .count) ⌝ }
+    {
+        let row = Names { names: &self.names };
+        first_misfit(&row, self.count as usize, self.count).is_none()
     }
 
     // The name below of a name above, over `cells` cells. A name that is none stays as it is, and so does every name if
@@ -40,8 +46,9 @@ impl Numbering {
     pub fn below(&self, name: usize, cells: usize) -> usize
         ensures value { λ r. ⌜ r ≡ sigma (now (self .entry) .names) (now (self .entry) .count) cells name ⌝ }
     {
-        if self.count == cells && is_name(name, cells) {
-            self.names[name - 1] as usize
+        if self.count as usize == cells && is_name(name, cells) && self.is_arranged() {
+            let row = Names { names: &self.names };
+            row.number_at(name as u16)
         } else {
             name
         }

@@ -33,3 +33,22 @@ pub impl Row for Given<'_> as GivenRow {
         }
     }
 }
+
+// A table's names.
+#[derive(Clone, Copy)]
+pub struct Names<'a> {
+    pub names: &'a [u8],
+}
+
+pub impl Row for Names<'_> as NamesRow {
+    ghost numbers = { λ s. entry (now (s .names)) };
+
+    fn number_at(&self, place: u16) -> usize {
+        let before = place.saturating_sub(1) as usize;
+        if before < self.names.len() {
+            self.names[before] as usize
+        } else {
+            0
+        }
+    }
+}

@@ -6,7 +6,6 @@ use native.Mathlib.Omega.{arith}
 use lib.ListN.{length, set}
 use Rattle.std.proofs.shelf.Lists.{length-set, getD-set-same, getD-set-other}
 use Rattle.std.proofs.shelf.Tests.{cases-eq}
-use Rattle.numbers.proofs.RowLaws.{passes, distinct-same}
 use Rattle.renumbered.specs.Renumberings.{entry}
 use Rattle.renumbered.proofs.numbering.Numbering.from_row.Needs as need
 
@@ -23,10 +22,3 @@ loop-i-again g c = (
   length-set (c .loop-i .names) (c .loop-i .i) (c .number-at .result) ∙ c .loop-i .inv .0,
   one-more (g .R·Row .numbers (c .args .row .now)) (c .loop-i .names) (c .loop-i .i) (c .number-at .result) (omega arith) (c .number-at .ensures .value) (c .loop-i .inv .1),
 )
-
-pub ghost-result : need.ghost-result
-ghost-result g c =
-    let row = g .R·Row .numbers (c .args .row .now) in
-    let n = c .args .count in
-    let names = c .loop-i .names in
-    (c .pre .small, (passes (entry names) n n .1 (distinct-same row (entry names) n n (λ y a b. sym (c .loop-i .inv .1 y a (omega arith))) (c .pre .distinct)), tt))

@@ -10,5 +10,5 @@ returns c =
     let s = c .args .self in
     let lower = c .args .lower in
     record {
-      names = table-all (c .from-row .result) k (both s lower k) (c .from-row .ensures .count) (c .from-row .ensures .names) (both-stay s lower k);
+      names = table-all (c .from-row .result) k (both s lower k) (c .from-row .ensures .count) (c .from-row .ensures .names) (both-distinct s lower k) (both-stay s lower k);
     }

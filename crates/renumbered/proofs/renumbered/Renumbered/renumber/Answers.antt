@@ -1,10 +1,11 @@
 use borrow.Author.Needs.{needs}
-use mathlib.Core.Path.{_≡_, refl, ap, _∙_}
+use mathlib.Core.Path.{_≡_, refl, ap, subst, _∙_}
 use mathlib.Core.Bool.{cond}
 use native.Mathlib.Omega.{arith}
 use lib.ListN.{length}
 use Rattle.std.specs.Results.{isOk}
 use Rattle.std.specs.declared.result.Result.the-variants.{Ok}
+use Rattle.numbers.specs.Rows.{Distinct}
 use Rattle.renumbered.specs.Renumberings.{entry, renumbered-marks}
 use Rattle.renumbered.specs.Stores.{by-table, stands-for, marks-above, row-answer}
 use Rattle.renumbered.proofs.RenumberingLaws.{renumbered-same}
@@ -19,7 +20,9 @@ returns-in-None g c =
     let row = c .args .row .now in
     let n = c .from-row-self .result in
     let is : Ok tt ≡ row-answer marks s row = search needs in
-    let names = table-in n (length ms) (entry row) (c .from-row-self .ensures .count ∙ c .count-count .ensures .value) (λ y a b. c .from-row-self .ensures .names y a (omega arith)) in
+    let c0 = c .count-count .ensures .value in
+    let distinct : Distinct (entry row) (length ms) (length ms) = subst (λ k. Distinct (entry row) k k) c0 (c .in-None .ensures tt .passes .0 refl) in
+    let names = table-in n (length ms) (entry row) (c .from-row-self .ensures .count ∙ c .count-count .ensures .value) (λ y a b. c .from-row-self .ensures .names y a (omega arith)) distinct in
     record {
       value = is;
       names = λ y a b. names y a b ∙ ap (λ r. cond (isOk r) (entry row y) (stands-for marks s y)) is;
