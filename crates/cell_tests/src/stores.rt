@@ -99,11 +99,10 @@ fn mark_tables() -> Result<(), Fail> {
 
 #[test]
 fn record_files() -> Result<(), Fail> {
-    let mut bytes = [9; 300];
-    names_are(&mut RecordFile::new(&mut bytes[0..3]), 0, 1)?;
-    behaves(&mut RecordFile::new(&mut bytes[0..255]), 63, 64)?;
-    behaves(&mut RecordFile::new(&mut bytes[0..256]), 64, 65)?;
-    behaves(&mut RecordFile::new(&mut bytes), 64, 65)
+    names_are(&mut RecordFile::new(&mut [9; 3]), 0, 1)?;
+    behaves(&mut RecordFile::new(&mut [9; 255]), 63, 64)?;
+    behaves(&mut RecordFile::new(&mut [9; 256]), 64, 65)?;
+    behaves(&mut RecordFile::new(&mut [9; 300]), 64, 65)
 }
 
 #[test]
