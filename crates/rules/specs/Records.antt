@@ -2,9 +2,9 @@
 use mathlib.Core.Bool.{Bool, false}
 use mathlib.Core.List.{List, [], _∷_}
 use Prim.Native.Nat.{ℕ}
-use lib.ListN.{replicate}
+use lib.ListN.{replicate, take}
 use Rattle.cells.specs.declared.mark.Mark.{Mark}
-use Rattle.cells.specs.declared.mark.Mark.the-variants.{Empty}
+use Rattle.cells.specs.declared.mark.Mark.the-variants.{Empty, Owner}
 use Rattle.rules.specs.declared.agent.Agent.{Agent}
 use Rattle.rules.specs.declared.agent.Section.{Section}
 use Rattle.rules.specs.declared.agent.Section.the-variants.{Idle}
@@ -41,3 +41,60 @@ loaded-agent p i = record {
   seen = replicate 64 Empty;
   flags = replicate 64 false;
 }
+
+module _ {P : Type 0} (a : Agent P) where
+  -- the agent's own mark
+  abbrev pub own : Mark
+  own = Owner (a .identity)
+
+  -- what was seen at the names 1 to m, and the flags there
+  abbrev pub seen-at : ℕ → List Mark
+  seen-at m = take m (a .seen)
+
+  abbrev pub flags-at : ℕ → List Bool
+  flags-at m = take m (a .flags)
+
+  -- the same record but for section, phase and name; for the rung; for the marks seen; for the flags
+  abbrev pub going : Section → P → ℕ → Agent P
+  going s p x = record {
+    section = s;
+    identity = a .identity;
+    phase = p;
+    name = x;
+    rung = a .rung;
+    seen = a .seen;
+    flags = a .flags;
+  }
+
+  abbrev pub on-rung : ℕ → Agent P
+  on-rung r = record {
+    section = a .section;
+    identity = a .identity;
+    phase = a .phase;
+    name = a .name;
+    rung = r;
+    seen = a .seen;
+    flags = a .flags;
+  }
+
+  abbrev pub having-seen : List Mark → Agent P
+  having-seen ms = record {
+    section = a .section;
+    identity = a .identity;
+    phase = a .phase;
+    name = a .name;
+    rung = a .rung;
+    seen = ms;
+    flags = a .flags;
+  }
+
+  abbrev pub flagged : List Bool → Agent P
+  flagged fs = record {
+    section = a .section;
+    identity = a .identity;
+    phase = a .phase;
+    name = a .name;
+    rung = a .rung;
+    seen = a .seen;
+    flags = fs;
+  }

@@ -2,6 +2,7 @@
 mod agent;
 mod answer;
 mod marks;
+mod moves;
 mod rule;
 mod want;
 
@@ -11,7 +12,5 @@ pub use agent::SectionDebug;
 pub use agent::SectionPartialEq;
 pub use answer::Answer;
 pub use marks::front;
-pub use marks::note;
-pub use marks::note_all;
 pub use rule::Rule;
 pub use want::Want;
