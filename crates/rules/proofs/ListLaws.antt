@@ -20,3 +20,8 @@ overlaid-suc (k ∷ ks) (o ∷ old) (suc i) less = ap (λ r. k ∷ r) (overlaid-
 
 pub overlaid-more : (ks old : List Mark) (i : ℕ) → i < length ks → set (overlaid (take i ks) old) i (getD ks i Empty) ≡ overlaid (take (i + 1) ks) old
 overlaid-more ks old i less = overlaid-suc ks old i less ∙ ap (λ j. overlaid (take j ks) old) (sym (add-one i))
+
+pub length-overlaid : (ks old : List Mark) → length (overlaid ks old) ≡ length old
+length-overlaid [] old = refl
+length-overlaid (k ∷ ks) [] = refl
+length-overlaid (k ∷ ks) (o ∷ old) = ap suc (length-overlaid ks old)

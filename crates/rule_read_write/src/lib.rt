@@ -1,0 +1,8 @@
+// The locking rule for cells that can only be read and written.
+mod judging;
+mod phase;
+mod rule;
+
+pub use phase::ReadWritePhase;
+pub use rule::ReadWrite;
+pub use rule::ReadWriteRule;
