@@ -16,6 +16,9 @@ use rules::Want;
 #[derive(Clone, Copy)]
 pub struct ReadWrite;
 
+// Where a request begins, and where an agent at rest stands.
+const FIRST: Phase = Phase::Look;
+
 // After a look: the marks are noted and judged in the same step.
 fn look(agent: &mut Agent<Phase>, marks: &[Mark], cells: usize)
     ensures after { λ _. ⌜ now (agent .exit) ≡ looked cells (now (agent .entry)) (now (marks .entry)) ⌝ }
@@ -68,12 +71,12 @@ pub impl Rule for ReadWrite as ReadWriteRule {
     }
 
     fn loaded_phase() -> Phase {
-        Phase::Look
+        FIRST
     }
 
     fn ask(_agents: usize, _cells: usize, agent: &mut Agent<Phase>) {
         agent.forget();
-        agent.go(Section::Asking, Phase::Look, 1);
+        agent.go(Section::Asking, FIRST, 1);
     }
 
     fn leave(_agents: usize, _cells: usize, agent: &mut Agent<Phase>) {
