@@ -3,6 +3,7 @@ mod agent;
 mod answer;
 mod marks;
 mod moves;
+mod replies;
 mod rule;
 mod want;
 

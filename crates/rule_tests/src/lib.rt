@@ -1,0 +1,5 @@
+// Tests of the rules, step by step, with every expected record worked out by hand.
+#[cfg(test)]
+mod agents;
+#[cfg(test)]
+mod read_write;
