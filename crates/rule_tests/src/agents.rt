@@ -51,3 +51,9 @@ pub fn has_seen<P: Copy>(agent: &Agent<P>, marks: &[Mark]) -> Result<(), Fail> {
     }
     Ok(())
 }
+
+// The same agent, having seen these marks at the first names.
+pub fn having<P: Copy>(mut agent: Agent<P>, marks: &[Mark]) -> Agent<P> {
+    agent.see_all(marks);
+    agent
+}
