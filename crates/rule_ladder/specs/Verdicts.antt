@@ -5,7 +5,7 @@ use lib.Dec.{leb, ltb}
 use Rattle.rule_ladder.specs.declared.verdict.Verdict.{Verdict}
 use Rattle.rule_ladder.specs.declared.verdict.Verdict.the-variants.{Withdraw, Hold, Climb}
 
--- as many flags for each of the agents that may stand on this rung and above are fewer than the cells
+-- as many flags for each agent that the rungs from r up have room for do not cover the cells
 abbrev pub too-few : ℕ → ℕ → ℕ → ℕ → Bool
 too-few c n r m = ltb (c * (n - r + 1)) m
 

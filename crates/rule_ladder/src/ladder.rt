@@ -5,6 +5,7 @@ use crate::moves::drop_lowest;
 use crate::moves::go_on;
 use crate::moves::raise_next;
 use crate::moves::seek;
+use crate::moves::turn;
 use crate::phase::LadderPhase;
 use cells::Mark;
 use rules::Agent;
@@ -15,7 +16,7 @@ use rules::Want;
 use rules::front;
 use tally::lowest_flag_set;
 
-// The ladder's agents share nothing but the cells.
+// The rule: an agent takes empty cells for rung 1, and climbs as long as it has its share of the cells.
 #[derive(Clone, Copy)]
 pub struct Ladder;
 
@@ -75,17 +76,19 @@ pub impl Rule for Ladder as LadderRule {
                 agent.flag(true);
                 go_on(agents, cells, agent, LadderPhase::Take);
             }
-            (LadderPhase::Take, Answer::Went(false)) => go_on(agents, cells, agent, LadderPhase::Take),
+            (LadderPhase::Take, Answer::Went(false)) => {
+                go_on(agents, cells, agent, LadderPhase::Take);
+            }
             (LadderPhase::Raise, Answer::Done) => raise_next(cells, agent),
             (LadderPhase::Fill, Answer::Cell(Mark::Rung(rung))) if rung >= agent.rung => {
                 go_on(agents, cells, agent, LadderPhase::Fill);
             }
-            (LadderPhase::Fill, Answer::Cell(_)) => agent.go(agent.section, LadderPhase::Try, agent.name),
+            (LadderPhase::Fill, Answer::Cell(_)) => turn(agent, LadderPhase::Try),
             (LadderPhase::Try, Answer::Went(true)) => {
                 agent.flag(true);
                 go_on(agents, cells, agent, LadderPhase::Fill);
             }
-            (LadderPhase::Try, Answer::Went(false)) => agent.go(agent.section, LadderPhase::Fill, agent.name),
+            (LadderPhase::Try, Answer::Went(false)) => turn(agent, LadderPhase::Fill),
             (LadderPhase::Drop, Answer::Done) => {
                 agent.flag(false);
                 drop_lowest(cells, agent);

@@ -11,4 +11,6 @@ pub use phase::LadderPhase;
 pub use phase::LadderPhaseDebug;
 pub use phase::LadderPhasePartialEq;
 pub use verdict::Verdict;
+pub use verdict::VerdictDebug;
+pub use verdict::VerdictPartialEq;
 pub use verdict::judge;

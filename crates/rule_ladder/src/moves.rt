@@ -1,6 +1,6 @@
 // The moves of an agent on the ladder.
 ghost use mathlib.Core.Path.{_≡_};
-ghost use Rattle.rule_ladder.specs.Moves.{rested, sought, dropping, raising-lowest, raising-next, judged, onward};
+ghost use Rattle.rule_ladder.specs.Moves.{turning, rested, sought, dropping, raising-lowest, raising-next, judged, onward};
 use crate::flags::next_flag_set;
 use crate::phase::LadderPhase;
 use crate::verdict::Verdict;
@@ -13,7 +13,15 @@ use tally::count_flags;
 use tally::count_of;
 use tally::lowest_flag_set;
 
-// Notes a mark while seeking, and goes on to the next name; after the last one to take, if all are empty, or else to seek again.
+// Goes to a phase at the same name.
+pub fn turn(agent: &mut Agent<LadderPhase>, phase: LadderPhase)
+    ensures after { λ _. ⌜ now (agent .exit) ≡ turning (now (agent .entry)) phase (now (agent .entry) .name) ⌝ }
+{
+    agent.phase = phase;
+}
+
+// Notes a mark while seeking, and goes on to the next name; after the last one to take, if all are empty, or else to seek
+// again.
 pub fn seek(cells: usize, agent: &mut Agent<LadderPhase>, mark: Mark)
     ensures after { λ _. ⌜ now (agent .exit) ≡ sought cells (now (agent .entry)) mark ⌝ }
 {

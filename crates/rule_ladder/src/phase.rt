@@ -1,7 +1,7 @@
 // The phases of the ladder.
 
-// Look for cells that are all empty; take each; raise the marks to the own rung; fill the lower cells up, with a swap where one
-// is to be tried; drop all flagged cells.
+// An agent seeks until all cells are empty, takes each, and on each rung above the first raises its marks, and fills the
+// cells that are lower by trying to swap; it drops its marks to withdraw or to leave.
 #[derive(Clone, Copy, PartialEq, Eq, Debug)]
 pub enum LadderPhase {
     Seek,

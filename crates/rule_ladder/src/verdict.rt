@@ -10,7 +10,8 @@ pub enum Verdict {
     Climb,
 }
 
-// Judges an agent that has `count` flags set on a rung. Each of the agents on this rung and above, this one counted, may need as many.
+// Judges an agent that has `count` flags set on a rung: as many for each agent that the rungs from this one up have room
+// for are to cover the cells.
 pub fn judge(count: usize, agents: usize, rung: u8, cells: usize) -> Verdict
     ensures value { λ r. ⌜ r ≡ verdict count agents rung cells ⌝ }
 {
