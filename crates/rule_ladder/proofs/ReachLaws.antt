@@ -1,36 +1,35 @@
 -- Every move leads to a record that calls can lead to. Assumes nothing.
 use mathlib.Core.Path.{_≡_, refl, sym, ap, subst, _∙_}
 use mathlib.Core.Bool.{Bool, true, false, cond}
-use mathlib.Core.Logic.{_⊎_, inl, inr, ⊎-elim}
-use Prim.Native.Nat.{ℕ, _+_, _-_, _*_, _≤_, _<_, min}
+use mathlib.Core.Logic.{_⊎_, inl, ⊎-elim}
+use Prim.Native.Nat.{ℕ, _+_, _-_, _*_, _≤_, min}
 use native.Mathlib.Nat.{zero-mul, le-refl}
 use native.Mathlib.Omega.{arith}
 use lib.Dec.{eqb, leb, ltb}
-use lib.ListN.{length, set, take}
+use lib.ListN.{length, take}
 use lib.Seq.{length-take-le}
 use Rattle.std.proofs.shelf.Lists.{length-set}
-use Rattle.std.proofs.shelf.Tests.{cond-both, cases-lt, ltb-true, ltb-false, leb-true, leb-false}
+use Rattle.std.proofs.shelf.Tests.{cond-both, cases-lt, ltb-true, ltb-false, leb-false, false≢true}
 use Rattle.std.specs.declared.option.Option.{Option}
 use Rattle.std.specs.declared.option.Option.the-variants.{None, Some}
-use Rattle.numbers.specs.First.{first-of, IsFirst}
+use Rattle.numbers.specs.First.{first-of}
 use Rattle.numbers.proofs.FirstLaws.{first-cases}
 use Rattle.cells.specs.Marks.{lawful}
 use Rattle.cells.specs.declared.mark.Mark.{Mark}
 use Rattle.cells.specs.declared.mark.Mark.the-variants.{Empty, Owner, Rung}
-use Rattle.tally.specs.Counts.{times, flag-at, flags-set, lowest-flag}
+use Rattle.tally.specs.Counts.{times, flag-at, flags-set}
 use Rattle.rules.specs.Lawful.{Sized, LawfulIdentity, AllLawful, Name, Moves, Fits}
-use Rattle.rules.specs.Records.{Reply, marks, cell, done, went, seen-at, flags-at, going, on-rung}
+use Rattle.rules.specs.Records.{Reply, marks, cell, done, went, seen-at, going, on-rung}
 use Rattle.rules.specs.declared.agent.Agent.{Agent}
 use Rattle.rules.specs.declared.agent.Section.{Section}
-use Rattle.rules.specs.declared.agent.Section.the-variants.{Idle, Asking, Holding, Leaving}
+use Rattle.rules.specs.declared.agent.Section.the-variants.{Asking, Holding, Leaving}
 use Rattle.rules.proofs.ReplaceLaws.{lawful-set}
 use Rattle.rule_ladder.specs.declared.phase.LadderPhase.{LadderPhase}
 use Rattle.rule_ladder.specs.declared.phase.LadderPhase.the-variants.{Seek, Take, Raise, Fill, Try, Drop}
 use Rattle.rule_ladder.specs.declared.verdict.Verdict.{Verdict}
 use Rattle.rule_ladder.specs.declared.verdict.Verdict.the-variants.{Withdraw, Hold, Climb}
-use Rattle.rule_ladder.specs.Flags.{next-flag}
 use Rattle.rule_ladder.specs.Verdicts.{too-few}
-use Rattle.rule_ladder.specs.Moves.{turning, noting, flagging, seeking, sought, raising-at, raising-lowest, raising-next, rested, dropping-at, dropping, judged-as, judged, onward}
+use Rattle.rule_ladder.specs.Moves.{turning, noting, flagging, seeking, raising-at, rested, dropping-at, dropping, judged-as, judged, onward}
 use Rattle.rule_ladder.specs.Ladder.{want-at, filled, taken, tried, step-at, OnRung, PhaseFits, SectionFits, LadderReachable}
 use Rattle.rule_ladder.proofs.FlagLaws.{found-name}
 
@@ -60,6 +59,14 @@ noting-sound a k good s = record {
   seen-all = length-set (a .seen) (a .name - 1) k ∙ s .seen-all;
   flags-all = s .flags-all;
 }
+
+abbrev drops : LadderPhase → Bool
+drops Seek = false
+drops Take = false
+drops Raise = false
+drops Fill = false
+drops Try = false
+drops Drop = true
 
 -- sections
 asking-fits : (m : ℕ) (s : Section) (b : Agent LadderPhase) → s ≡ Asking → SectionFits s m b
@@ -169,10 +176,6 @@ module _ (n m : ℕ) (size : Sized n m) where
       turning-reaches a Seek (a .name + 1) s e (low, high) tt) (λ _.
       cond-both (eqb (times (seen-at a m) Empty) m) (turning (on-rung a 1) Take 1) (turning a Seek 1) (LadderReachable n m) (λ _. turning-reaches (on-rung a 1) Take 1 (on-rung-sound a 1 s) e first-name refl) (λ _. turning-reaches a Seek 1 s e first-name tt))
 
-  -- an agent that moves and does not drop is asking
-  asks-unless : (a : Agent LadderPhase) → SectionFits (a .section) m a → Moves a → (a .phase ≡ Drop → ⊥) → a .section ≡ Asking
-  asks-unless a fits moves not′ = ⊎-elim (λ e. e) (λ e. absurd (not′ (subst (λ t. SectionFits t m a) e fits))) moves
-
   taken-reaches : (a : Agent LadderPhase) (b : Bool) → Sound a → a .section ≡ Asking → a .rung ≡ 1 → Name m (a .name) → LadderReachable n m (taken n m a b)
   taken-reaches a true s e r x =
       let low : 1 ≤ a .rung = omega arith in
@@ -194,25 +197,26 @@ module _ (n m : ℕ) (size : Sized n m) where
       cond-both (leb (a .rung) t) (onward n m a Fill) (turning a Try (a .name)) (LadderReachable n m) (λ _. onward-reaches a Fill s e r x r) (λ _. turning-reaches a Try (a .name) s e x r)
 
   module _ (a : Agent LadderPhase) (s : Sound a) (x : Name m (a .name)) (section-fits : SectionFits (a .section) m a) (moves : Moves a) where
-    apart : (p : LadderPhase) → a .phase ≡ p → (p ≡ Drop → ⊥) → a .section ≡ Asking
-    apart p is not′ = asks-unless a section-fits moves (λ e. not′ (sym is ∙ e))
+    -- an agent that moves and does not drop is asking
+    asks-in : (p : LadderPhase) → a .phase ≡ p → drops p ≡ false → a .section ≡ Asking
+    asks-in p is no′ = ⊎-elim (λ e. e) (λ e. absurd (false≢true (sym no′ ∙ ap drops (sym is ∙ subst (λ t. SectionFits t m a) e section-fits)))) moves
 
     step-reaches : (p : LadderPhase) (r : Reply) → a .phase ≡ p → PhaseFits p n a → Fits m (want-at p (a .name) (a .rung)) r → LadderReachable n m (step-at p n m a r)
     step-reaches Seek (cell k) is f good =
-        let e = apart Seek is (λ d. let z : _≡_ {A = ℕ} 0 1 = cc d in omega arith) in
+        let e = asks-in Seek is refl in
         seeking-reaches (noting a k) (noting-sound a k good s) e
     step-reaches Take (went b) is f good =
-        let e = apart Take is (λ d. let z : _≡_ {A = ℕ} 0 1 = cc d in omega arith) in
+        let e = asks-in Take is refl in
         taken-reaches a b s e f x
     step-reaches Raise done is f good =
-        let e = apart Raise is (λ d. let z : _≡_ {A = ℕ} 0 1 = cc d in omega arith) in
+        let e = asks-in Raise is refl in
         let long = length-take-le m (a .flags) (fits-in a s) in
         raising-reaches a (a .name + 1) (length (take m (a .flags)) - a .name) s e (f .0) (omega arith) (omega arith)
     step-reaches Fill (cell k) is f good =
-        let e = apart Fill is (λ d. let z : _≡_ {A = ℕ} 0 1 = cc d in omega arith) in
+        let e = asks-in Fill is refl in
         filled-reaches a k s e f x
     step-reaches Try (went b) is f good =
-        let e = apart Try is (λ d. let z : _≡_ {A = ℕ} 0 1 = cc d in omega arith) in
+        let e = asks-in Try is refl in
         tried-reaches a b s e f x
     step-reaches Drop done is f good = dropping-reaches (flagging a false) (flagging-sound a false s) moves
     step-reaches Seek (marks ms) is f good = absurd good

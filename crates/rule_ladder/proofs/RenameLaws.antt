@@ -1,17 +1,16 @@
 -- The moves after a replacement of identities. Assumes nothing.
-use mathlib.Core.Path.{_≡_, refl, sym, ap, subst, _∙_}
+use mathlib.Core.Path.{_≡_, refl, sym, ap, _∙_}
 use mathlib.Core.Bool.{Bool, true, false, cond}
-use mathlib.Core.List.{List, map}
 use Prim.Native.Nat.{ℕ, _+_, _-_}
 use lib.Dec.{eqb, leb, ltb}
-use lib.ListN.{length, set, take}
+use lib.ListN.{take}
 use Rattle.std.proofs.shelf.Lists.{length-map, map-set, take-map}
 use Rattle.std.specs.declared.option.Option.{Option}
 use Rattle.std.specs.declared.option.Option.the-variants.{None, Some}
 use Rattle.cells.specs.Marks.{lawful}
 use Rattle.cells.specs.declared.mark.Mark.{Mark}
 use Rattle.cells.specs.declared.mark.Mark.the-variants.{Empty, Owner, Rung}
-use Rattle.tally.specs.Counts.{times, flag-at, flags-set, lowest-flag}
+use Rattle.tally.specs.Counts.{times, flags-set, lowest-flag}
 use Rattle.rules.specs.Lawful.{AllLawful, Permutes, Fits, replaced, replaced-agent, replaced-reply}
 use Rattle.rules.specs.Records.{Reply, marks, cell, done, went, seen-at, flags-at, having-seen, on-rung}
 use Rattle.rules.specs.declared.agent.Agent.{Agent}
@@ -24,7 +23,7 @@ use Rattle.rule_ladder.specs.declared.verdict.Verdict.{Verdict}
 use Rattle.rule_ladder.specs.declared.verdict.Verdict.the-variants.{Withdraw, Hold, Climb}
 use Rattle.rule_ladder.specs.Flags.{next-flag}
 use Rattle.rule_ladder.specs.Verdicts.{verdict}
-use Rattle.rule_ladder.specs.Moves.{turning, noting, flagging, seeking, sought, raising-at, dropping-at, dropping, judged-as, judged, onward}
+use Rattle.rule_ladder.specs.Moves.{turning, noting, flagging, seeking, sought, raising-at, dropping-at, judged-as, judged, onward}
 use Rattle.rule_ladder.specs.Ladder.{want-at, filled, taken, tried, step-at, PhaseFits, SectionFits, LadderReachable}
 
 module _ (π : ℕ → ℕ) where

@@ -13,7 +13,7 @@ use Rattle.rules.specs.declared.agent.Agent.{Agent}
 use Rattle.rules.specs.declared.agent.Section.{Section}
 use Rattle.rules.specs.declared.agent.Section.the-variants.{Idle, Asking, Holding, Leaving}
 use Rattle.rule_ladder.specs.declared.phase.LadderPhase.{LadderPhase}
-use Rattle.rule_ladder.specs.declared.phase.LadderPhase.the-variants.{Seek, Take, Raise, Fill, Try, Drop}
+use Rattle.rule_ladder.specs.declared.phase.LadderPhase.the-variants.{Seek, Take, Raise, Fill, Drop}
 use Rattle.rule_ladder.specs.declared.verdict.Verdict.{Verdict}
 use Rattle.rule_ladder.specs.declared.verdict.Verdict.the-variants.{Withdraw, Hold, Climb}
 use Rattle.rule_ladder.specs.Flags.{next-flag}
