@@ -1,0 +1,3 @@
+mod FlagLaws
+mod ReachLaws
+mod RenameLaws

@@ -1,0 +1,4 @@
+pub mod Flags
+pub mod Ladder
+pub mod Moves
+pub mod Verdicts
