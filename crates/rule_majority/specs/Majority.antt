@@ -24,7 +24,7 @@ use Rattle.rule_majority.specs.declared.verdict.Verdict.{Verdict}
 use Rattle.rule_majority.specs.declared.verdict.Verdict.the-variants.{Withdraw, Hold, Again}
 use Rattle.rule_majority.specs.Verdicts.{verdict}
 
-abbrev Record : Type 0
+abbrev pub Record : Type 0
 Record = Agent MajorityPhase
 
 -- what is seen
@@ -52,7 +52,7 @@ to a p x = going a (a .section) p x
 -- giving
 
 -- asking goes on to wait, leaving to idle
-abbrev nothing-left-in : Section → Record → Record
+abbrev pub nothing-left-in : Section → Record → Record
 nothing-left-in Idle a = to a Wait 1
 nothing-left-in Asking a = to a Wait 1
 nothing-left-in Holding a = to a Wait 1
@@ -61,7 +61,7 @@ nothing-left-in Leaving a = going a Idle Take 1
 abbrev pub nothing-left : Record → Record
 nothing-left a = nothing-left-in (a .section) a
 
-abbrev give-at : Option ℕ → Record → Record
+abbrev pub give-at : Option ℕ → Record → Record
 give-at (Some x) a = to a Give x
 give-at None a = nothing-left a
 
@@ -71,7 +71,7 @@ give-next m a = give-at (own-name m a) a
 
 -- after the last name of a scan and of a wait
 
-abbrev by-verdict : Verdict → ℕ → Record → Record
+abbrev pub by-verdict : Verdict → ℕ → Record → Record
 by-verdict Withdraw m a = give-next m a
 by-verdict Hold m a = going a Holding Take 1
 by-verdict Again m a = to a Take 1
@@ -88,7 +88,7 @@ waited m a = cond (all-empty m a) (to a Take 1) (to a Wait 1)
 abbrev pub majority-asked : ℕ → ℕ → Record → Record
 majority-asked n m a = going (having-seen a (replicate 64 Empty)) Asking Take 1
 
-abbrev leave-at : Option ℕ → Record → Record
+abbrev pub leave-at : Option ℕ → Record → Record
 leave-at (Some x) a = going a Leaving Give x
 leave-at None a = going a Leaving Give 1
 
@@ -96,7 +96,7 @@ leave-at None a = going a Leaving Give 1
 abbrev pub majority-left : ℕ → ℕ → Record → Record
 majority-left n m a = leave-at (own-name m a) a
 
-abbrev want-in : MajorityPhase → Record → Want
+abbrev pub want-in : MajorityPhase → Record → Want
 want-in Take a = Swap (a .name) Empty (own a)
 want-in Scan a = Read (a .name)
 want-in Give a = Write (a .name) Empty
@@ -106,7 +106,7 @@ abbrev pub majority-wants : ℕ → ℕ → Record → Want
 majority-wants n m a = want-in (a .phase) a
 
 -- an answer of another kind changes nothing
-abbrev step-in : MajorityPhase → ℕ → Record → Reply → Record
+abbrev pub step-in : MajorityPhase → ℕ → Record → Reply → Record
 step-in Take m a (marks ms) = a
 step-in Take m a (cell k) = a
 step-in Take m a done = a
