@@ -8,6 +8,7 @@ use lib.Dec.{ltb}
 use lib.ListN.{length, replicate}
 use Rattle.std.proofs.shelf.Lists.{length-set, length-replicate}
 use Rattle.std.proofs.shelf.Tests.{ltb-true, cond-both}
+use Rattle.std.specs.Options.{valueOr}
 use Rattle.std.specs.declared.option.Option.{Option}
 use Rattle.std.specs.declared.option.Option.the-variants.{None, Some}
 use Rattle.cells.specs.Marks.{lawful, mark-at}
@@ -22,7 +23,7 @@ use Rattle.rules.specs.declared.agent.Section.the-variants.{Idle, Asking, Holdi
 use Rattle.rule_majority.specs.declared.phase.MajorityPhase.{MajorityPhase}
 use Rattle.rule_majority.specs.declared.phase.MajorityPhase.the-variants.{Take, Scan, Give, Wait}
 use Rattle.rule_majority.specs.declared.verdict.Verdict.the-variants.{Withdraw, Hold, Again}
-use Rattle.rule_majority.specs.Majority.{Record, own-name, own-seen, all-empty, noted, to, nothing-left-in, give-at, give-next, by-verdict, decided, waited, leave-at, majority-asked, majority-left, want-in, step-in, Reachable}
+use Rattle.rule_majority.specs.Majority.{Record, own-name, own-seen, all-empty, noted, to, nothing-left-in, give-at, give-next, by-verdict, decided, waited, majority-asked, majority-left, want-in, step-in, Reachable}
 use Rattle.rule_majority.specs.Verdicts.{verdict}
 use Rattle.rule_majority.proofs.SeenLaws.{lowest-tells, lowest-none}
 
@@ -161,7 +162,7 @@ module _ (m : ℕ) (a : Record) (h : Sound a) where
     wait-reach is =
         cond-both (all-empty m a) (to a Take 1) (to a Wait 1) (Reachable m) (λ _. take-again is) (λ _. wait-again is)
 
-    leave-reach-at : (o : Option ℕ) → own-name m a ≡ o → m < 2 * own-seen m a → Reachable m (leave-at o a)
+    leave-reach-at : (o : Option ℕ) → own-name m a ≡ o → m < 2 * own-seen m a → Reachable m (going a Leaving Give (valueOr o 1))
     leave-reach-at (Some x) found more =
         let here = lowest-tells m (a .seen) (own a) x found in leaving-at Leaving x refl (here .0) (here .1)
     leave-reach-at None found more = absurd (omega (arith, lowest-none (seen-at a m) (own a) found))
@@ -205,14 +206,16 @@ step-reach n m a Wait (went b) is sized h moves fits = h
 
 -- the laws
 
-nothing-seen : (a : Record) → LawfulIdentity (a .identity) → Sound (having-seen a (replicate 64 Empty))
-nothing-seen a good = record { identity-lawful = good; seen-lawful = lawful-nothing 64; long = length-replicate 64 Empty }
-
 pub load-reachable : (n m i : ℕ) → Sized n m → LawfulIdentity i → Reachable m (loaded-agent Take i)
-load-reachable n m i sized good = idle-at m (loaded-agent Take i) (nothing-seen (loaded-agent Take i) good) (sized .cells-low)
+load-reachable n m i sized good =
+    let kept : Sound (loaded-agent Take i) = record { identity-lawful = good; seen-lawful = lawful-nothing 64; long = length-replicate 64 Empty } in
+    idle-at m (loaded-agent Take i) kept (sized .cells-low)
 
 pub ask-reachable : (n m : ℕ) (a : Record) → Sized n m → Reachable m a → Reachable m (majority-asked n m a)
-ask-reachable n m a sized h = take-again m (going (having-seen a (replicate 64 Empty)) Asking Take 1) (record { identity-lawful = h .lawful-identity; seen-lawful = lawful-nothing 64; long = length-replicate 64 Empty }) (sized .cells-low) refl
+ask-reachable n m a sized h =
+    let first = majority-asked n m a in
+    let kept : Sound first = record { identity-lawful = h .lawful-identity; seen-lawful = lawful-nothing 64; long = length-replicate 64 Empty } in
+    take-again m first kept (sized .cells-low) refl
 
 pub leave-reachable : (n m : ℕ) (a : Record) → Sized n m → Reachable m a → Holds a → Reachable m (majority-left n m a)
 leave-reachable n m a sized h holds = leave-reach-at m a (sound m a h) (sized .cells-low) (own-name m a) refl (h .holding holds .2)

@@ -6,6 +6,7 @@ use Prim.Native.Nat.{ℕ, _+_, _-_, _*_, _≤_, _<_}
 use lib.Dec.{eqb, ltb}
 use lib.ListN.{length, take}
 use Rattle.std.proofs.shelf.Lists.{length-map, take-map, map-set}
+use Rattle.std.specs.Options.{valueOr}
 use Rattle.std.specs.declared.option.Option.{Option}
 use Rattle.std.specs.declared.option.Option.the-variants.{None, Some}
 use Rattle.numbers.proofs.RowLaws.{within-from}
@@ -22,7 +23,7 @@ use Rattle.rule_majority.specs.declared.phase.MajorityPhase.{MajorityPhase}
 use Rattle.rule_majority.specs.declared.phase.MajorityPhase.the-variants.{Take, Scan, Give, Wait}
 use Rattle.rule_majority.specs.declared.verdict.Verdict.{Verdict}
 use Rattle.rule_majority.specs.declared.verdict.Verdict.the-variants.{Withdraw, Hold, Again}
-use Rattle.rule_majority.specs.Majority.{Record, own-name, own-seen, all-empty, noted, to, nothing-left-in, nothing-left, give-at, give-next, by-verdict, decided, waited, leave-at, majority-left, want-in, step-in, Reachable}
+use Rattle.rule_majority.specs.Majority.{Record, own-name, own-seen, all-empty, noted, to, nothing-left-in, nothing-left, give-at, give-next, by-verdict, decided, waited, majority-left, want-in, step-in, Reachable}
 use Rattle.rule_majority.specs.Verdicts.{verdict}
 
 -- the same test chooses between replaced records
@@ -43,10 +44,6 @@ module _ (π : ℕ → ℕ) (perm : Permutes π) where
   give-at-renamed : (o : Option ℕ) (a : Record) → give-at o (new a) ≡ new (give-at o a)
   give-at-renamed (Some x) a = refl
   give-at-renamed None a = left-renamed (a .section) a
-
-  leave-at-renamed : (o : Option ℕ) (a : Record) → leave-at o (new a) ≡ new (leave-at o a)
-  leave-at-renamed (Some x) a = refl
-  leave-at-renamed None a = refl
 
   noted-renamed : (a : Record) (k : Mark) → noted (new a) (replaced π k) ≡ new (noted a k)
   noted-renamed a k = ap (having-seen (new a)) (sym (map-set (replaced π) (a .seen) (a .name - 1) k))
@@ -77,7 +74,7 @@ module _ (π : ℕ → ℕ) (perm : Permutes π) where
     give-renamed = ap (λ o. give-at o (new a)) own-name-renamed ∙ give-at-renamed (own-name m a) a
 
     pub leave-renamed : (n : ℕ) → majority-left n m (new a) ≡ new (majority-left n m a)
-    leave-renamed n = ap (λ o. leave-at o (new a)) own-name-renamed ∙ leave-at-renamed (own-name m a) a
+    leave-renamed n = ap (λ o. going (new a) Leaving Give (valueOr o 1)) own-name-renamed
 
     verdict-renamed : (v : Verdict) → by-verdict v m (new a) ≡ new (by-verdict v m a)
     verdict-renamed Withdraw = give-renamed

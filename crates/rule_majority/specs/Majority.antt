@@ -5,6 +5,7 @@ use mathlib.Core.List.{List}
 use Prim.Native.Nat.{ℕ, _+_, _*_, _≤_, _<_}
 use lib.Dec.{eqb, ltb}
 use lib.ListN.{length, replicate}
+use Rattle.std.specs.Options.{valueOr}
 use Rattle.std.specs.declared.option.Option.{Option}
 use Rattle.std.specs.declared.option.Option.the-variants.{None, Some}
 use Rattle.cells.specs.Marks.{mark-at, put}
@@ -88,13 +89,9 @@ waited m a = cond (all-empty m a) (to a Take 1) (to a Wait 1)
 abbrev pub majority-asked : ℕ → ℕ → Record → Record
 majority-asked n m a = going (having-seen a (replicate 64 Empty)) Asking Take 1
 
-abbrev pub leave-at : Option ℕ → Record → Record
-leave-at (Some x) a = going a Leaving Give x
-leave-at None a = going a Leaving Give 1
-
--- a leave begins at GIVE, at the lowest name seen as own
+-- a leave begins at GIVE, at the lowest name seen as own: every reachable record that holds has one
 abbrev pub majority-left : ℕ → ℕ → Record → Record
-majority-left n m a = leave-at (own-name m a) a
+majority-left n m a = going a Leaving Give (valueOr (own-name m a) 1)
 
 abbrev pub want-in : MajorityPhase → Record → Want
 want-in Take a = Swap (a .name) Empty (own a)

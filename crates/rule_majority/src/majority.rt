@@ -13,6 +13,8 @@ use rules::Rule;
 use rules::Section;
 use rules::Want;
 
+// A request takes all cells in turn, then scans them. With fewer marks than another identity the agent gives its own back
+// and waits until all cells are empty; with more than half of the cells it holds; else it takes again.
 #[derive(Clone, Copy)]
 pub struct Majority;
 
@@ -49,27 +51,19 @@ pub impl Rule for Majority as MajorityRule {
     }
 
     fn leave(_agents: usize, cells: usize, agent: &mut Agent<MajorityPhase>) {
-        match lowest_own(agent, cells) {
-            Some(name) => agent.go(Section::Leaving, MajorityPhase::Give, name),
-            None => agent.go(Section::Leaving, MajorityPhase::Give, 1),
-        }
+        let name = lowest_own(agent, cells).unwrap_or(1);
+        agent.go(Section::Leaving, MajorityPhase::Give, name);
     }
 
     fn want(_agents: usize, _cells: usize, agent: &Agent<MajorityPhase>) -> Want {
         match agent.phase {
             MajorityPhase::Take => Want::Swap(agent.name, Mark::Empty, agent.own()),
-            MajorityPhase::Scan => Want::Read(agent.name),
+            MajorityPhase::Scan | MajorityPhase::Wait => Want::Read(agent.name),
             MajorityPhase::Give => Want::Write(agent.name, Mark::Empty),
-            MajorityPhase::Wait => Want::Read(agent.name),
         }
     }
 
-    fn step(
-        _agents: usize,
-        cells: usize,
-        agent: &mut Agent<MajorityPhase>,
-        answer: Answer<'_>,
-    ) {
+    fn step(_agents: usize, cells: usize, agent: &mut Agent<MajorityPhase>, answer: Answer<'_>) {
         match (agent.phase, answer) {
             (MajorityPhase::Take, Answer::Went(_)) if agent.name < cells => {
                 agent.go(agent.section, MajorityPhase::Take, agent.name + 1);

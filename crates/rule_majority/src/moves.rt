@@ -51,8 +51,9 @@ pub fn decide(agent: &mut Agent<MajorityPhase>, cells: usize)
     ensures after { λ _. ⌜ now (agent .exit) ≡ decided cells (now (agent .entry)) ⌝ }
 {
     let seen = front(&agent.seen, cells);
-    let verdict = judge(count_of(seen, agent.own()), most_of_one_identity(seen), cells);
-    match verdict {
+    let own = count_of(seen, agent.own());
+    let most = most_of_one_identity(seen);
+    match judge(own, most, cells) {
         Verdict::Withdraw => give_next(agent, cells),
         Verdict::Hold => agent.go(Section::Holding, MajorityPhase::Take, 1),
         Verdict::Again => agent.go(agent.section, MajorityPhase::Take, 1),
