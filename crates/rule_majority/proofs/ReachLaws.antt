@@ -1,11 +1,11 @@
 -- Every call leads from reachable records to reachable ones. Assumes nothing.
-use mathlib.Core.Path.{_≡_, refl, sym, ap, subst, _∙_}
-use mathlib.Core.Bool.{Bool, true, false, cond}
-use mathlib.Core.Logic.{_⊎_, inl, inr, ⊎-elim}
+use mathlib.Core.Path.{_≡_, refl, sym, subst, _∙_}
+use mathlib.Core.Bool.{true, cond}
+use mathlib.Core.Logic.{inl, ⊎-elim}
 use Prim.Native.Nat.{ℕ, _+_, _-_, _*_, _≤_, _<_}
 use native.Mathlib.Omega.{arith}
 use lib.Dec.{ltb}
-use lib.ListN.{length, replicate}
+use lib.ListN.{length}
 use Rattle.std.proofs.shelf.Lists.{length-set, length-replicate}
 use Rattle.std.proofs.shelf.Tests.{ltb-true, cond-both}
 use Rattle.std.specs.Options.{valueOr}
@@ -14,8 +14,7 @@ use Rattle.std.specs.declared.option.Option.the-variants.{None, Some}
 use Rattle.cells.specs.Marks.{lawful, mark-at}
 use Rattle.cells.specs.declared.mark.Mark.{Mark}
 use Rattle.cells.specs.declared.mark.Mark.the-variants.{Empty}
-use Rattle.tally.specs.Counts.{most-of-one}
-use Rattle.rules.specs.Records.{Reply, marks, cell, done, went, own, seen-at, going, having-seen, loaded-agent}
+use Rattle.rules.specs.Records.{Reply, marks, cell, done, went, own, seen-at, going, loaded-agent}
 use Rattle.rules.specs.Lawful.{Sized, LawfulIdentity, AllLawful, Name, Moves, Holds, Fits}
 use Rattle.rules.proofs.ReplaceLaws.{lawful-nothing, lawful-set}
 use Rattle.rules.specs.declared.agent.Section.{Section}
@@ -23,8 +22,7 @@ use Rattle.rules.specs.declared.agent.Section.the-variants.{Idle, Asking, Holdi
 use Rattle.rule_majority.specs.declared.phase.MajorityPhase.{MajorityPhase}
 use Rattle.rule_majority.specs.declared.phase.MajorityPhase.the-variants.{Take, Scan, Give, Wait}
 use Rattle.rule_majority.specs.declared.verdict.Verdict.the-variants.{Withdraw, Hold, Again}
-use Rattle.rule_majority.specs.Majority.{Record, own-name, own-seen, all-empty, noted, to, nothing-left-in, give-at, give-next, by-verdict, decided, waited, majority-asked, majority-left, want-in, step-in, Reachable}
-use Rattle.rule_majority.specs.Verdicts.{verdict}
+use Rattle.rule_majority.specs.Majority.{Record, own-name, own-seen, most-seen, all-empty, noted, to, nothing-left-in, give-at, give-next, by-verdict, decided, waited, majority-asked, majority-left, want-in, step-in, Reachable}
 use Rattle.rule_majority.proofs.SeenLaws.{lowest-tells, lowest-none}
 
 -- sections and phases are different
@@ -150,7 +148,7 @@ module _ (m : ℕ) (a : Record) (h : Sound a) where
     decide-reach : a .section ≡ Asking → Reachable m (decided m a)
     decide-reach is =
         let k = own-seen m a in
-        let t = most-of-one (seen-at a m) in
+        let t = most-seen m a in
         cond-both (ltb k t) Withdraw (cond (ltb m (2 * k)) Hold Again) (λ v. Reachable m (by-verdict v m a))
         (λ _. give-reach (inl is))
         (λ _.

@@ -2,15 +2,14 @@
 use mathlib.Core.Path.{_≡_, refl, sym, ap, subst, _∙_}
 use mathlib.Core.Bool.{Bool, true, false, cond}
 use mathlib.Core.List.{map}
-use Prim.Native.Nat.{ℕ, _+_, _-_, _*_, _≤_, _<_}
+use Prim.Native.Nat.{ℕ, _+_, _-_, _*_, _<_}
 use lib.Dec.{eqb, ltb}
-use lib.ListN.{length, take}
 use Rattle.std.proofs.shelf.Lists.{length-map, take-map, map-set}
 use Rattle.std.specs.Options.{valueOr}
 use Rattle.std.specs.declared.option.Option.{Option}
 use Rattle.std.specs.declared.option.Option.the-variants.{None, Some}
 use Rattle.numbers.proofs.RowLaws.{within-from}
-use Rattle.cells.specs.Marks.{lawful, mark-at}
+use Rattle.cells.specs.Marks.{lawful}
 use Rattle.cells.specs.declared.mark.Mark.{Mark}
 use Rattle.cells.specs.declared.mark.Mark.the-variants.{Empty}
 use Rattle.tally.specs.Counts.{times, lowest, most-of-one}
@@ -23,7 +22,7 @@ use Rattle.rule_majority.specs.declared.phase.MajorityPhase.{MajorityPhase}
 use Rattle.rule_majority.specs.declared.phase.MajorityPhase.the-variants.{Take, Scan, Give, Wait}
 use Rattle.rule_majority.specs.declared.verdict.Verdict.{Verdict}
 use Rattle.rule_majority.specs.declared.verdict.Verdict.the-variants.{Withdraw, Hold, Again}
-use Rattle.rule_majority.specs.Majority.{Record, own-name, own-seen, all-empty, noted, to, nothing-left-in, nothing-left, give-at, give-next, by-verdict, decided, waited, majority-left, want-in, step-in, Reachable}
+use Rattle.rule_majority.specs.Majority.{Record, own-name, own-seen, most-seen, all-empty, noted, to, nothing-left-in, give-at, give-next, by-verdict, decided, waited, majority-left, want-in, step-in, Reachable}
 use Rattle.rule_majority.specs.Verdicts.{verdict}
 
 -- the same test chooses between replaced records
@@ -64,7 +63,7 @@ module _ (π : ℕ → ℕ) (perm : Permutes π) where
     own-name-renamed : own-name m (new a) ≡ own-name m a
     own-name-renamed = ap (λ l. lowest l (own (new a))) front ∙ lowest-replaced π perm (seen-at a m) front-lawful (own a) own-lawful
 
-    most-renamed : most-of-one (seen-at (new a) m) ≡ most-of-one (seen-at a m)
+    most-renamed : most-seen m (new a) ≡ most-seen m a
     most-renamed = ap most-of-one front ∙ most-replaced π perm (seen-at a m) front-lawful
 
     empty-renamed : all-empty m (new a) ≡ all-empty m a
@@ -83,9 +82,9 @@ module _ (π : ℕ → ℕ) (perm : Permutes π) where
 
     decided-renamed : decided m (new a) ≡ new (decided m a)
     decided-renamed =
-        ap (λ k. by-verdict (verdict k (most-of-one (seen-at (new a) m)) m) m (new a)) own-seen-renamed
+        ap (λ k. by-verdict (verdict k (most-seen m (new a)) m) m (new a)) own-seen-renamed
         ∙ ap (λ t. by-verdict (verdict (own-seen m a) t m) m (new a)) most-renamed
-        ∙ verdict-renamed (verdict (own-seen m a) (most-of-one (seen-at a m)) m)
+        ∙ verdict-renamed (verdict (own-seen m a) (most-seen m a) m)
 
     waited-renamed : waited m (new a) ≡ new (waited m a)
     waited-renamed = ap (λ b. cond b (to (new a) Take 1) (to (new a) Wait 1)) empty-renamed ∙ chosen new (all-empty m a) (to a Take 1) (to a Wait 1)

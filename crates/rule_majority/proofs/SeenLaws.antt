@@ -2,14 +2,13 @@
 use mathlib.Core.Path.{_≡_, refl, sym, ap, _∙_}
 use mathlib.Core.Bool.{Bool, true, false, cond}
 use mathlib.Core.List.{List}
-use Prim.Native.Nat.{ℕ, zero, suc, _+_, _-_, _≤_, _<_}
+use Prim.Native.Nat.{ℕ, zero, suc, _+_, _-_, _≤_}
 use native.Mathlib.Omega.{arith}
-use lib.ListN.{length, getD, take}
+use lib.ListN.{length, take}
 use lib.Seq.{getD-take}
 use Rattle.std.proofs.shelf.Lists.{length-take}
 use Rattle.std.proofs.shelf.Tests.{eqb-true, false≢true}
 use Rattle.std.specs.declared.option.Option.the-variants.{None, Some}
-use Rattle.numbers.specs.First.{first-of}
 use Rattle.numbers.proofs.FirstLaws.{first-tells-none, first-tells-some}
 use Rattle.cells.specs.Marks.{same-mark, mark-at}
 use Rattle.cells.specs.declared.mark.Mark.{Mark}

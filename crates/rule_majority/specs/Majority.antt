@@ -1,8 +1,7 @@
 -- The rule `majority`. Own is an owner's mark with the agent's identity, m is the number of cells. Assumes nothing.
 use mathlib.Core.Path.{_≡_}
 use mathlib.Core.Bool.{Bool, cond}
-use mathlib.Core.List.{List}
-use Prim.Native.Nat.{ℕ, _+_, _*_, _≤_, _<_}
+use Prim.Native.Nat.{ℕ, _+_, _*_, _<_}
 use lib.Dec.{eqb, ltb}
 use lib.ListN.{length, replicate}
 use Rattle.std.specs.Options.{valueOr}
@@ -37,6 +36,10 @@ own-name m a = lowest (seen-at a m) (own a)
 -- how many marks are seen as own
 abbrev pub own-seen : ℕ → Record → ℕ
 own-seen m a = times (seen-at a m) (own a)
+
+-- the most marks seen of one identity
+abbrev pub most-seen : ℕ → Record → ℕ
+most-seen m a = most-of-one (seen-at a m)
 
 -- all m marks are seen as empty
 abbrev pub all-empty : ℕ → Record → Bool
@@ -78,7 +81,7 @@ by-verdict Hold m a = going a Holding Take 1
 by-verdict Again m a = to a Take 1
 
 abbrev pub decided : ℕ → Record → Record
-decided m a = by-verdict (verdict (own-seen m a) (most-of-one (seen-at a m)) m) m a
+decided m a = by-verdict (verdict (own-seen m a) (most-seen m a) m) m a
 
 abbrev pub waited : ℕ → Record → Record
 waited m a = cond (all-empty m a) (to a Take 1) (to a Wait 1)

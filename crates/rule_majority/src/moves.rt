@@ -1,6 +1,6 @@
 // The moves of an agent under the rule.
 ghost use mathlib.Core.Path.{_≡_};
-ghost use Rattle.rule_majority.specs.Majority.{own-name, all-empty, nothing-left, give-next, decided, waited};
+ghost use Rattle.rule_majority.specs.Majority.{own-name, own-seen, most-seen, all-empty, nothing-left, give-next, decided, waited};
 use crate::phase::MajorityPhase;
 use crate::verdict::Verdict;
 use crate::verdict::judge;
@@ -17,6 +17,20 @@ pub fn lowest_own(agent: &Agent<MajorityPhase>, cells: usize) -> Option<usize>
     ensures value { λ r. ⌜ r ≡ own-name cells (now (agent .entry)) ⌝ }
 {
     lowest_name_of(front(&agent.seen, cells), agent.own())
+}
+
+// How many marks were seen as the agent's own.
+fn count_own(agent: &Agent<MajorityPhase>, cells: usize) -> usize
+    ensures value { λ r. ⌜ r ≡ own-seen cells (now (agent .entry)) ⌝ }
+{
+    count_of(front(&agent.seen, cells), agent.own())
+}
+
+// The most marks seen of one identity.
+fn count_most(agent: &Agent<MajorityPhase>, cells: usize) -> usize
+    ensures value { λ r. ⌜ r ≡ most-seen cells (now (agent .entry)) ⌝ }
+{
+    most_of_one_identity(front(&agent.seen, cells))
 }
 
 // Whether all cells were seen empty.
@@ -50,10 +64,7 @@ pub fn give_next(agent: &mut Agent<MajorityPhase>, cells: usize)
 pub fn decide(agent: &mut Agent<MajorityPhase>, cells: usize)
     ensures after { λ _. ⌜ now (agent .exit) ≡ decided cells (now (agent .entry)) ⌝ }
 {
-    let seen = front(&agent.seen, cells);
-    let own = count_of(seen, agent.own());
-    let most = most_of_one_identity(seen);
-    match judge(own, most, cells) {
+    match judge(count_own(agent, cells), count_most(agent, cells), cells) {
         Verdict::Withdraw => give_next(agent, cells),
         Verdict::Hold => agent.go(Section::Holding, MajorityPhase::Take, 1),
         Verdict::Again => agent.go(agent.section, MajorityPhase::Take, 1),
