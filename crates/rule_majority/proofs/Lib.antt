@@ -1,0 +1,3 @@
+mod ReachLaws
+mod RenameLaws
+mod SeenLaws
