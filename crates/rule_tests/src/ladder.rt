@@ -39,7 +39,9 @@ fn has(agent: &Agent<Phase>, rung: u8, flags: [bool; 4]) -> Result<(), Fail> {
 }
 
 const FLAT: [bool; 4] = [false, false, false, false];
+
 const ENDS: [bool; 4] = [true, false, true, false];
+
 const THREE: [bool; 4] = [true, true, true, false];
 
 #[test]

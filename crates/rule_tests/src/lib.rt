@@ -2,4 +2,8 @@
 #[cfg(test)]
 mod agents;
 #[cfg(test)]
+mod ladder;
+#[cfg(test)]
+mod majority;
+#[cfg(test)]
 mod read_write;

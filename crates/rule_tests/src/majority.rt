@@ -26,7 +26,13 @@ fn steps(from: (Phase, usize), answer: Answer<'_>, to: (Phase, usize)) -> Result
 }
 
 // The last of these marks is read by SCAN, the others were seen before.
-fn scans(marks: &[Mark], last: Mark, section: Section, phase: Phase, name: usize) -> Result<(), Fail> {
+fn scans(
+    marks: &[Mark],
+    last: Mark,
+    section: Section,
+    phase: Phase,
+    name: usize,
+) -> Result<(), Fail> {
     let cells = marks.len();
     let mut agent = having(at(Section::Asking, Phase::Scan, cells), marks);
     Majority::step(2, cells, &mut agent, Answer::of_read(last));
@@ -62,9 +68,27 @@ fn scans_of_three() -> Result<(), Fail> {
 // 2 × k against 4: equal, and two more.
 #[test]
 fn scans_of_four() -> Result<(), Fail> {
-    scans(&[OWN, OTHER, OWN, NONE], OTHER, Section::Asking, Phase::Take, 1)?;
-    scans(&[OWN, OTHER, OWN, NONE], OWN, Section::Holding, Phase::Take, 1)?;
-    scans(&[OWN, OTHER, OWN, NONE], NONE, Section::Asking, Phase::Take, 1)
+    scans(
+        &[OWN, OTHER, OWN, NONE],
+        OTHER,
+        Section::Asking,
+        Phase::Take,
+        1,
+    )?;
+    scans(
+        &[OWN, OTHER, OWN, NONE],
+        OWN,
+        Section::Holding,
+        Phase::Take,
+        1,
+    )?;
+    scans(
+        &[OWN, OTHER, OWN, NONE],
+        NONE,
+        Section::Asking,
+        Phase::Take,
+        1,
+    )
 }
 
 #[test]
