@@ -3,13 +3,13 @@ use mathlib.Core.Path.{_≡_, refl, sym, ap, subst, _∙_}
 use mathlib.Core.Bool.{Bool, true, false, cond}
 use mathlib.Core.Logic.{_⊎_, inl, ⊎-elim}
 use Prim.Native.Nat.{ℕ, _+_, _-_, _*_, _≤_, min}
-use native.Mathlib.Nat.{zero-mul, le-refl}
+use native.Mathlib.Nat.{mul-one, le-refl}
 use native.Mathlib.Omega.{arith}
 use lib.Dec.{eqb, leb, ltb}
 use lib.ListN.{length, take}
 use lib.Seq.{length-take-le}
 use Rattle.std.proofs.shelf.Lists.{length-set}
-use Rattle.std.proofs.shelf.Tests.{cond-both, cases-lt, ltb-true, ltb-false, leb-false, false≢true}
+use Rattle.std.proofs.shelf.Tests.{cond-both, ltb-true, ltb-false, leb-true, leb-false, false≢true}
 use Rattle.std.specs.declared.option.Option.{Option}
 use Rattle.std.specs.declared.option.Option.the-variants.{None, Some}
 use Rattle.numbers.specs.First.{first-of}
@@ -134,17 +134,11 @@ module _ (n m : ℕ) (size : Sized n m) where
       subst P (sym (some .1)) (reached b (turned-sound a (a .section) Drop (some .0) s) (found .0) (found .1) (drop-fits m (a .section) b moves refl)))
       (first-cases (flag-at fs) 1 (length fs) (1 + length fs) refl)
 
-  -- enough is not nothing
-  some-flag : (c r : ℕ) → too-few c n r m ≡ false → 1 ≤ c
-  some-flag c r enough =
-      ⊎-elim
-      (λ less.
-      let none : c ≡ 0 = omega arith in
-      let product : c * (n - r + 1) ≡ 0 = ap (λ d. d * (n - r + 1)) none ∙ zero-mul (n - r + 1) in
-      let many = ltb-false (c * (n - r + 1)) m enough in
-      absurd (omega (arith, size .cells-low)))
-      (λ h. h)
-      (cases-lt c 1)
+  -- on the highest rung all flags are to be set
+  all-flags : (c r : ℕ) → too-few c n r m ≡ false → n ≤ r → m ≤ c
+  all-flags c r enough top =
+      let one : n - r + 1 ≡ 1 = omega arith in
+      subst (λ d. m ≤ d) (ap (λ k. c * k) one ∙ mul-one c) (ltb-false (c * (n - r + 1)) m enough)
 
   judged-reaches : (a : Agent LadderPhase) → Sound a → a .section ≡ Asking → OnRung n (a .rung) → LadderReachable n m (judged n m a)
   judged-reaches a s e r =
@@ -152,7 +146,7 @@ module _ (n m : ℕ) (size : Sized n m) where
       let P : Verdict → Type 0 = λ v. LadderReachable n m (judged-as v m a) in
       cond-both (too-few c n (a .rung) m) Withdraw (cond (leb n (a .rung)) Hold Climb) P (λ few. dropping-reaches (on-rung a 0) (on-rung-sound a 0 s) (inl e)) (λ enough.
       cond-both (leb n (a .rung)) Hold Climb P (λ top.
-      reached (going a Holding Seek 1) (turned-sound a Holding Seek 1 s) first-name tt (refl, refl, some-flag c (a .rung) enough)) (λ below.
+      reached (going a Holding Seek 1) (turned-sound a Holding Seek 1 s) first-name tt (refl, refl, all-flags c (a .rung) enough (leb-true n (a .rung) top))) (λ below.
       let less = leb-false n (a .rung) below in
       let next = min (a .rung + 1) 255 in
       let low : 1 ≤ next = omega arith in

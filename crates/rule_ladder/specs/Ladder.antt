@@ -96,11 +96,11 @@ PhaseFits Fill n a = OnRung n (a .rung)
 PhaseFits Try n a = OnRung n (a .rung)
 PhaseFits Drop n a = flag-at (a .flags) (a .name) ≡ true
 
--- an idle or holding agent stands where a request begins, and one that holds has a flag; a leaving one drops
+-- an idle or holding agent stands where a request begins, and one that holds has all m flags set; a leaving one drops
 abbrev pub SectionFits : Section → ℕ → Agent LadderPhase → Type 0
 SectionFits Idle m a = (a .phase ≡ Seek) × (a .name ≡ 1)
 SectionFits Asking m a = Unit {0}
-SectionFits Holding m a = (a .phase ≡ Seek) × (a .name ≡ 1) × (1 ≤ flags-set (flags-at a m))
+SectionFits Holding m a = (a .phase ≡ Seek) × (a .name ≡ 1) × (m ≤ flags-set (flags-at a m))
 SectionFits Leaving m a = a .phase ≡ Drop
 
 -- what every record has that calls can lead to

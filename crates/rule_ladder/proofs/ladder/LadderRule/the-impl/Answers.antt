@@ -32,7 +32,7 @@ loads-law n m i size good = record {
 pub leaves-law : need.leaves-law
 leaves-law n m a size h holds =
     let held = subst (λ s. SectionFits s m a) holds (h .section-fits) in
-    let some = lowest-found (take m (a .flags)) (held .2) in
+    let some = lowest-found (take m (a .flags)) (omega (arith, held .2, size .cells-low)) in
     let found = found-name (a .flags) m 1 (some .0) (omega (arith, h .flags-all, size .cells-high)) (le-refl 1) (some .2) in
     let P : Option ℕ → Type 0 = λ o. LadderReachable n m (going (on-rung a 0) Leaving Drop (valueOr o 1)) in
     subst P (sym (some .1)) (record {
