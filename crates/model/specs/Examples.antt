@@ -1,7 +1,7 @@
 -- Runs on the model, by computing. Assumes nothing.
 use mathlib.Core.Path.{_≡_}
 use mathlib.Core.List.{List, [], _∷_, _++_}
-use Prim.Native.Nat.{ℕ, zero, suc}
+use Prim.Native.Nat.{ℕ, zero, suc, _-_}
 use lib.ListN.{replicate, getD}
 use Rattle.std.specs.declared.option.Option.{Option}
 use Rattle.std.specs.declared.option.Option.the-variants.{None, Some}
@@ -12,8 +12,9 @@ use Rattle.cells.specs.declared.mark.Mark.{Mark}
 use Rattle.cells.specs.declared.mark.Mark.the-variants.{Empty, Owner}
 use Rattle.rules.specs.declared.agent.Section.{Section}
 use Rattle.rules.specs.declared.agent.Section.the-variants.{Idle, Asking, Holding, Leaving}
+use Rattle.rule_read_write.specs.declared.phase.ReadWritePhase.{ReadWritePhase}
 use Rattle.model.specs.Meanings.{Meaning, read-and-write, by-majority, by-ladder}
-use Rattle.model.specs.Rigs.{World, section-at, holder, run, loaded-world}
+use Rattle.model.specs.Rigs.{Rig, World, Seat, section-at, figure-at, holder, run, loaded-world}
 
 -- two agents, 700 and 41, over three cells that the second calls 2, 3, 1
 abbrev pub two-agents : List Event → Sayings
@@ -40,4 +41,23 @@ alone R steps = section-at (ran R (Request 1 ∷ times-over steps (Step 1 ∷ []
 
 -- alone, an agent holds after so many steps, and not one earlier
 abbrev pub HoldsAfter : {P : Type 0} → Meaning P → ℕ → Type 0
-HoldsAfter R steps = (alone R (suc steps) ≡ Holding) × (alone R steps ≡ Asking)
+HoldsAfter R steps = (alone R steps ≡ Holding) × (alone R (steps - 1) ≡ Asking)
+
+-- request 1, request 2, five times step 1 and step 2, four times step 1, three times step 2, step 1, leave 1
+abbrev pub two-requests : List Event
+two-requests = Request 1 ∷ Request 2 ∷ times-over 5 (Step 1 ∷ Step 2 ∷ []) ++ times-over 4 (Step 1 ∷ []) ++ times-over 3 (Step 2 ∷ []) ++ (Step 1 ∷ Leave 1 ∷ [])
+
+-- an agent's section and figures
+pub record Told (s : Section) (taken won declined : ℕ) {P : Type 0} (g : Rig P) (k : ℕ) : Type 0 where
+  pub section : section-at g k ≡ s
+  pub steps : figure-at (λ t. t .steps) g k ≡ taken
+  pub entries : figure-at (λ t. t .entries) g k ≡ won
+  pub refused : figure-at (λ t. t .refused) g k ≡ declined
+
+-- the second agent comes to hold with all cells its own, and the first is refused its leave
+pub record AfterTwoRequests (winner : Option ℕ) (w : World ReadWritePhase) : Type 0 where
+  pub first : Told Asking 10 0 1 (w .rig) 1
+  pub second : Told Holding 8 1 0 (w .rig) 2
+  pub cells : w .store ≡ replicate 3 (Owner 41)
+  pub crowd : w .rig .crowd ≡ 2
+  pub held : holder (w .rig) ≡ winner

@@ -110,6 +110,13 @@ module _ {P : Type 0} where
   abbrev pub section-at : Rig P → ℕ → Section
   section-at g k = section-in (named (g .seats) k)
 
+  abbrev pub figure-in : (Seat P → ℕ) → Option (Seat P) → ℕ
+  figure-in f None = 0
+  figure-in f (Some s) = f s
+
+  abbrev pub figure-at : (Seat P → ℕ) → Rig P → ℕ → ℕ
+  figure-at f g k = figure-in f (named (g .seats) k)
+
   abbrev pub asking-now : Rig P → ℕ
   asking-now g = count-names (λ k. is-asking (section-at g k)) (agents g)
 
