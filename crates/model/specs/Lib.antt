@@ -1,3 +1,5 @@
 pub mod Examples
+pub mod Loads
 pub mod Meanings
 pub mod Rigs
+pub mod Rounds

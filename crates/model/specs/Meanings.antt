@@ -13,8 +13,9 @@ use Rattle.rule_ladder.specs.Ladder as ladder
 use Rattle.rule_ladder.specs.declared.phase.LadderPhase.{LadderPhase}
 use Rattle.rule_ladder.specs.declared.phase.LadderPhase.the-variants.{Seek}
 
--- a loaded agent's phase, the first records of a request and a leave, what is wanted next, and the next record
+-- its number, a loaded agent's phase, the first records of a request and a leave, what is wanted next, and the next record
 pub record Meaning (P : Type 0) : Type 0 where
+  pub number : ℕ
   pub loaded : P
   pub asked : ℕ → ℕ → Agent P → Agent P
   pub left : ℕ → ℕ → Agent P → Agent P
@@ -23,6 +24,7 @@ pub record Meaning (P : Type 0) : Type 0 where
 
 abbrev pub read-and-write : Meaning ReadWritePhase
 read-and-write = record {
+  number = 1;
   loaded = Look;
   asked = read-write.first-asking;
   left = read-write.first-leaving;
@@ -32,6 +34,7 @@ read-and-write = record {
 
 abbrev pub by-majority : Meaning MajorityPhase
 by-majority = record {
+  number = 2;
   loaded = Take;
   asked = majority.majority-asked;
   left = majority.majority-left;
@@ -41,6 +44,7 @@ by-majority = record {
 
 abbrev pub by-ladder : Meaning LadderPhase
 by-ladder = record {
+  number = 3;
   loaded = Seek;
   asked = ladder.ladder-asked;
   left = ladder.ladder-left;

@@ -1,7 +1,7 @@
 -- A rig of agents over a list of marks: what each call answers, and what the rig is afterwards. Assumes nothing.
 use mathlib.Core.Bool.{Bool, true, false, cond, not}
 use mathlib.Core.List.{List, [], _∷_}
-use Prim.Native.Nat.{ℕ, zero, suc, _+_, _-_, _*_, _/_, _%_, max}
+use Prim.Native.Nat.{ℕ, zero, suc, _+_, _-_, max}
 use lib.Dec.{eqb, ltb, leb}
 use lib.ListN.{length, getD, set}
 use Rattle.std.specs.Options.{isSome}
@@ -15,19 +15,19 @@ use Rattle.numbers.specs.Rows.{within}
 use Rattle.refusal.specs.Checks.{_then_, Check, refuse-if, refuse-at}
 use Rattle.refusal.specs.declared.Refusal.{Refusal}
 use Rattle.refusal.specs.declared.Refusal.the-variants.{NoSuchAgent, NotIdle, NotHolding, AtRest, HeardAll, NoSuchCell, OnStandoff}
-use Rattle.plan.specs.Plans.{Sayings}
 use Rattle.plan.specs.declared.event.Event.{Event}
 use Rattle.plan.specs.declared.event.Event.the-variants.{Request, Step, Leave}
-use Rattle.cells.specs.Marks.{mark-at, name-check, mark-check, write-answer, after-write, swap-answer, says-yes, after-swap}
+use Rattle.cells.specs.Marks.{mark-at, read-answer, name-check, mark-check, write-answer, after-write, swap-answer, says-yes, after-swap}
 use Rattle.cells.specs.declared.mark.Mark.{Mark}
 use Rattle.tally.specs.Counts.{count-names}
-use Rattle.rules.specs.Records.{Reply, marks, cell, done, went, loaded-agent}
+use Rattle.rules.specs.Records.{Reply, marks, cell, done, went}
 use Rattle.rules.specs.declared.agent.Agent.{Agent}
 use Rattle.rules.specs.declared.agent.Section.{Section}
 use Rattle.rules.specs.declared.agent.Section.the-variants.{Idle, Asking, Holding, Leaving}
 use Rattle.rules.specs.declared.want.Want.{Want}
 use Rattle.rules.specs.declared.want.Want.the-variants.{Look, Read, Write, Swap}
 use Rattle.model.specs.Meanings.{Meaning}
+use Rattle.model.specs.declared.Figures.{Figures}
 
 -- an agent in a rig: its table, its record, and its figures
 pub record Seat (P : Type 0) : Type 0 where
@@ -124,12 +124,41 @@ module _ {P : Type 0} where
   abbrev pub holder : Rig P → Option ℕ
   holder g = first-of (λ k. is-holding (section-at g k)) 1 (agents g)
 
+  -- what the questions answer
+  abbrev pub agent-check : Rig P → ℕ → Check
+  agent-check g k = refuse-if (not (within 1 (agents g) k)) (NoSuchAgent k)
+
+  abbrev pub section-answer : Rig P → ℕ → Result Section Refusal
+  section-answer g k = agent-check g k then Ok (section-at g k)
+
+  abbrev pub figures-answer : Rig P → ℕ → Result Figures Refusal
+  figures-answer g k = agent-check g k then Ok (record {
+    steps = figure-at (λ s. s .steps) g k;
+    entries = figure-at (λ s. s .entries) g k;
+    refused = figure-at (λ s. s .refused) g k;
+    heard = g .heard;
+    crowd = g .crowd;
+  })
+
+  abbrev pub cell-answer : World P → ℕ → Result Mark Refusal
+  cell-answer w y = read-answer (w .store) y
+
   -- the rig with another seat for agent k
   abbrev pub seated : Rig P → ℕ → Seat P → Rig P
   seated g k s = record {
     cells = g .cells;
     seats = set (g .seats) (k - 1) s;
     heard = g .heard;
+    crowd = g .crowd;
+    standoff = g .standoff;
+  }
+
+  -- one call more was heard
+  abbrev pub heard-once : Rig P → Rig P
+  heard-once g = record {
+    cells = g .cells;
+    seats = g .seats;
+    heard = g .heard + 1;
     crowd = g .crowd;
     standoff = g .standoff;
   }
@@ -199,7 +228,7 @@ module _ {P : Type 0} where
   -- checked before the section: the agent is there, the rig is no stand-off, and there is a call left to hear
   abbrev pub hearing-check : Rig P → ℕ → Check
   hearing-check g k =
-      refuse-if (not (within 1 (agents g) k)) (NoSuchAgent k) then
+      agent-check g k then
       refuse-if (isSome (g .standoff)) OnStandoff then
       refuse-if (leb heard-at-most (g .heard)) HeardAll
 
@@ -239,42 +268,22 @@ module _ {P : Type 0} where
       store = w .store;
     }
 
-    -- a call refused for the section is heard, and counted for its agent
-    abbrev pub turned-away : World P → ℕ → Seat P → World P
-    turned-away w k s = record { rig = counted (seated (w .rig) k (refused-once s)); store = w .store }
+    -- an accepted call
+    abbrev pub moved : World P → Event → World P
+    moved w e = at-seat (named (w .rig .seats) (agent-of e)) (λ s. after-check (serving-check w e s) (done-by w e s) w) w
+
+    -- a call refused for the section: it is heard, and counted for its agent
+    abbrev pub turned-away : World P → Event → World P
+    turned-away w e = at-seat (named (w .rig .seats) (agent-of e)) (λ s. record { rig = heard-once (seated (w .rig) (agent-of e) (refused-once s)); store = w .store }) w
 
     -- what the rig and its store are after a call
     abbrev pub after : World P → Event → World P
     after w e =
         after-check (hearing-check (w .rig) (agent-of e))
-        (at-seat (named (w .rig .seats) (agent-of e))
-        (λ s. after-check (section-check e (s .agent .section)) (after-check (serving-check w e s) (done-by w e s) w) (turned-away w (agent-of e) s))
-        w)
+        (after-check (section-check e (section-at (w .rig) (agent-of e))) (moved w e) (turned-away w e))
         w
 
     -- a run: the calls one after another
     abbrev pub run : World P → List Event → World P
     run w [] = w
     run w (e ∷ es) = run (after w e) es
-
-    -- what a load makes of a blank rig over a store
-    abbrev pub seat-of : Sayings → ℕ → Seat P
-    seat-of p k = record {
-      table = getD (p .tables) (k - 1) [];
-      agent = loaded-agent (R .loaded) (getD (p .identities) (k - 1) 0);
-      steps = 0;
-      entries = 0;
-      refused = 0;
-    }
-
-    abbrev pub loaded-world : Sayings → List Mark → World P
-    loaded-world p ms = record {
-      rig = record {
-        cells = p .cells;
-        seats = listed (seat-of p) (p .agents);
-        heard = 0;
-        crowd = 0;
-        standoff = None;
-      };
-      store = ms;
-    }

@@ -13,5 +13,6 @@ returns c = record {
     cells = refl;
     crowd = refl;
     held = refl;
+    again = refl;
   };
 }

@@ -1,0 +1,12 @@
+use mathlib.Core.Path.{refl}
+use Rattle.numbers.specs.Factors.{smallest-common-factor, common-factor, gcd}
+use Rattle.numbers.specs.First.{first-of}
+use Rattle.numbers.specs.Names.{named, listed}
+use Rattle.tally.specs.Counts.{count-names, largest}
+use Rattle.model.proofs.owners_on_standoff.Needs as need
+
+pub returns : need.returns
+unfolding first-of named listed count-names largest smallest-common-factor common-factor gcd
+returns c = record {
+  outcome = record { together = refl; cells = refl; first = refl; second = refl; third = refl; leave = refl };
+}
