@@ -1,5 +1,8 @@
 // Takes a card file image on standard input, makes cells of it, puts and swaps marks through two numberings, and prints
 // what every step answered, the cells and the bytes. The same steps go over a mark table, and must end alike.
+
+#![tactic(auto)]
+
 mod steps;
 
 use anyhow::anyhow;

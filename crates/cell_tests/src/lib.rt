@@ -1,4 +1,7 @@
 // Tests of the three stores at their boundaries, with every expected value worked out by hand.
+
+#![tactic(auto)]
+
 #[cfg(test)]
 mod records;
 #[cfg(test)]

@@ -1,4 +1,7 @@
 // Cells that agents share: the mark in a cell, and the interface of a store of cells.
+
+#![tactic(auto)]
+
 mod checks;
 mod mark;
 mod store;

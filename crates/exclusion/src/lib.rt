@@ -1,4 +1,7 @@
 // No two agents hold the window together, under each of the three rules.
+
+#![tactic(auto)]
+
 ghost use Rattle.std.specs.Prelude.{◌≡◌, [], ◌∷◌};
 ghost use Rattle.model.specs.Meanings.{meaning_of, read_and_write, by_majority, by_ladder};
 ghost use Rattle.exclusion.specs.Exclusion.{NoTwoHolders};

@@ -1,4 +1,7 @@
 // Stand-offs: where the number of cells has a common factor with a number of agents, agents that move together stay together.
+
+#![tactic(auto)]
+
 ghost use Rattle.std.specs.Prelude.{◌≡◌, [], ◌∷◌};
 ghost use Rattle.model.specs.Meanings.{meaning_of, read_and_write, by_majority, by_ladder};
 ghost use Rattle.lockstep.specs.Standoffs.{StandsOff, SameSection, NobodyHolds};

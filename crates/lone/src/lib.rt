@@ -1,4 +1,7 @@
 // How long one agent takes when only its calls are heard.
+
+#![tactic(auto)]
+
 ghost use Rattle.std.specs.Prelude.{◌≡◌};
 ghost use Rattle.model.specs.Meanings.{read_and_write, by_majority, by_ladder};
 ghost use Rattle.lone.specs.Lone.{HoldsAlone, register_steps, majority_steps, ladder_steps};

@@ -1,4 +1,7 @@
 // A store of cells that holds its marks itself.
+
+#![tactic(auto)]
+
 mod store;
 mod table;
 

@@ -1,4 +1,7 @@
 // What the rig means, and what is shown of it before any of its calls runs.
+
+#![tactic(auto)]
+
 ghost use Rattle.std.specs.Prelude.{◌≡◌};
 ghost use Rattle.model.specs.Examples.{HoldsAfter, AfterTwoRequests, HalfEach, BothHold, ran, two_requests, stood_off, standoff_over_three, zeros_over_three};
 ghost use Rattle.model.specs.Meanings.{read_and_write, by_majority, by_ladder};

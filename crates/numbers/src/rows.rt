@@ -12,7 +12,7 @@ pub trait Row {
 
 // Whether the number at `place` stands at an earlier place too.
 fn repeated<R: Row>(row: &R, place: u16) -> bool
-    ensures value { result ≡ repeats (numbers row.now) place }
+    ensures value { result ≡ repeats (R.numbers row.now) place }
 {
     let number = row.number_at(place);
     for earlier in 1..place {
@@ -25,10 +25,10 @@ fn repeated<R: Row>(row: &R, place: u16) -> bool
 
 // The first of the places 1 to `count` whose number is not from 1 to `most` or repeats an earlier one.
 pub fn first_misfit<R: Row>(row: &R, most: usize, count: u16) -> Option<usize>
-    ensures value { result ≡ first_misfit (numbers row.now) most count }
-    ensures passes { (is_some result ≡ false) ↔ Distinct (numbers row.now) most count }
-    ensures complete { is_some result ≡ false → most ≡ count → EveryNumber (numbers row.now) count }
-    ensures first { IfSome result (FirstMisfit (numbers row.now) most count) }
+    ensures value { result ≡ first_misfit (R.numbers row.now) most count }
+    ensures passes { (is_some result ≡ false) ↔ Distinct (R.numbers row.now) most count }
+    ensures complete { is_some result ≡ false → most ≡ count → EveryNumber (R.numbers row.now) count }
+    ensures first { IfSome result (FirstMisfit (R.numbers row.now) most count) }
 {
     for place in 1..=count {
         let number = row.number_at(place);

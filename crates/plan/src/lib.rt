@@ -1,4 +1,7 @@
 // Plan files: taken apart, judged, and answered as a typed plan.
+
+#![tactic(auto)]
+
 mod bytes;
 mod decode;
 mod event;

@@ -1,4 +1,7 @@
 // Reads the plan files that a list names, and prints the verdict on each.
+
+#![tactic(auto)]
+
 ghost use Rattle.std.specs.Prelude.{◌≡◌, IfOk, string_bytes};
 ghost use Rattle.plan_vectors.specs.Verdicts.{verdict_line};
 

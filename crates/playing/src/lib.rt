@@ -1,4 +1,7 @@
 // Runs of rigs, and what is shown of every run.
+
+#![tactic(auto)]
+
 mod playing;
 mod rehearsal;
 mod theorems;

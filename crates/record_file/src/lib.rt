@@ -1,4 +1,7 @@
 // A store of cells in the bytes of a caller's card file.
+
+#![tactic(auto)]
+
 mod file;
 mod record;
 mod store;

@@ -1,4 +1,7 @@
 // Every way in which the rig says no: the number, the layer and the two place numbers of each refusal.
+
+#![tactic(auto)]
+
 ghost use Rattle.std.specs.Prelude.{◌≡◌, Some};
 ghost use Rattle.refusal.specs.Refusals.{layer_word, part_number, number_of, layer_of, first_place, second_place, refusal_line};
 

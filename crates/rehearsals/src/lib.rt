@@ -1,4 +1,7 @@
 // Whether what two rigs answer agrees: a plan's rig and its twin's, and the agents of a stand-off.
+
+#![tactic(auto)]
+
 mod agents;
 mod marks;
 mod names;

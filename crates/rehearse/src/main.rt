@@ -1,6 +1,9 @@
 // Rehearses each of the three rules: plays a plan over a mark table, its twin over a renumbered card file, and a
 // stand-off over another mark table, in the one call that has all that is shown of such runs; then asks the rigs, and
 // prints that they agree as they must.
+
+#![tactic(auto)]
+
 mod acts;
 mod standoffs;
 mod twins;

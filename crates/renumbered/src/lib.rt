@@ -1,4 +1,7 @@
 // A store of cells that stands over another and gives its cells other names.
+
+#![tactic(auto)]
+
 mod composed;
 mod numbering;
 mod pile;

@@ -1,4 +1,7 @@
 // Renumbering the cells and replacing the identities is invisible, under every lawful rule.
+
+#![tactic(auto)]
+
 ghost use Rattle.std.specs.Prelude.{replicate};
 ghost use Rattle.cells.specs.declared.mark.Mark.TheVariants.{Empty};
 ghost use Rattle.model.specs.Meanings.{meaning_of, read_and_write};

@@ -1,4 +1,7 @@
 // The report of a rig as text in a caller's buffer.
+
+#![tactic(auto)]
+
 mod copying;
 mod examples;
 mod figures;

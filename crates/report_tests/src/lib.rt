@@ -1,3 +1,6 @@
 // Tests of reports.
+
+#![tactic(auto)]
+
 #[cfg(test)]
 mod blank;

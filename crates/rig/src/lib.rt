@@ -1,4 +1,7 @@
 // The rig: agents that share the cells of a store under a locking rule, one call at a time.
+
+#![tactic(auto)]
+
 mod calls;
 mod emptiness;
 mod loads;

@@ -1,4 +1,7 @@
 // Tests of the rig through its calls, with every expected value worked out by hand.
+
+#![tactic(auto)]
+
 #[cfg(test)]
 mod calls;
 #[cfg(test)]

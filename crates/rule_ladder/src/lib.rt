@@ -1,4 +1,7 @@
 // The ladder: an agent climbs by one rung at a time, each time with enough of the cells, and holds on the highest.
+
+#![tactic(auto)]
+
 mod flags;
 mod ladder;
 mod moves;

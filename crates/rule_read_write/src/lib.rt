@@ -1,4 +1,7 @@
 // The locking rule for cells that can only be read and written.
+
+#![tactic(auto)]
+
 mod judging;
 mod phase;
 mod rule;

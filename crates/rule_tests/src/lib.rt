@@ -1,4 +1,7 @@
 // Tests of the rules, step by step, with every expected record worked out by hand.
+
+#![tactic(auto)]
+
 #[cfg(test)]
 mod agents;
 #[cfg(test)]

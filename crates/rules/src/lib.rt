@@ -1,4 +1,7 @@
 // A locking rule as the machine of one agent: its record, what it wants of the cells, and what it becomes by the answer.
+
+#![tactic(auto)]
+
 mod agent;
 mod answer;
 mod marks;

@@ -1,4 +1,7 @@
 // Runs the plan files that a list names, and prints the report of each, or its refusal.
+
+#![tactic(auto)]
+
 use std::fs;
 use trials::{MAX_REPORT, trial_report};
 

@@ -1,4 +1,7 @@
 // What every run of a rig keeps, under every lawful rule.
+
+#![tactic(auto)]
+
 ghost use Rattle.model.specs.Meanings.{meaning_of};
 ghost use Rattle.runs.specs.Serving.{AlwaysGranted};
 

@@ -1,5 +1,8 @@
 // Loads a stand-off, plays its rounds, and prints what each answered and the report, for whoever asks why a number of
 // cells is refused.
+
+#![tactic(auto)]
+
 use standoffs::Standoff;
 use std::env;
 use std::io::Write;

@@ -1,4 +1,7 @@
 // Runs the stand-offs that a list names, as the program `standoff` would, and prints each after its name.
+
+#![tactic(auto)]
+
 use standoffs::Standoff;
 use std::fs;
 use std::io::Write;

@@ -1,4 +1,7 @@
 // A stand-off as a program is asked for it: read from words, played, and told as text.
+
+#![tactic(auto)]
+
 mod letters;
 mod numerals;
 mod reading;

@@ -1,4 +1,7 @@
 // Counts over the marks that an agent has seen and the flags that it has set. Names count from 1.
+
+#![tactic(auto)]
+
 ghost use Rattle.std.specs.Prelude.{◌≡◌, ◌+◌, ◌<◌, length};
 ghost use Rattle.tally.specs.Counts.{times, lowest, is_new, identities, times_at, most_of_one, flags_set, lowest_flag};
 

@@ -1,4 +1,7 @@
 // Reads a plan file on standard input and prints whether a rig would take it, or the refusal.
+
+#![tactic(auto)]
+
 mod record;
 
 use plan::{Plan, rule_asked};

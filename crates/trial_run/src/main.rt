@@ -1,4 +1,7 @@
 // Runs the plan on standard input or in the named file, and prints the report, or the refusal.
+
+#![tactic(auto)]
+
 mod words;
 
 use std::env;

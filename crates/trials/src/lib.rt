@@ -1,4 +1,7 @@
 // The whole trial of a plan file, from its bytes to the bytes of the report.
+
+#![tactic(auto)]
+
 mod run;
 mod sizes;
 mod trial;

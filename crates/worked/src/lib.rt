@@ -1,4 +1,7 @@
 // Worked examples, as one theorem.
+
+#![tactic(auto)]
+
 ghost use Rattle.std.specs.Prelude.{◌≡◌};
 ghost use Rattle.worked.specs.Worked.{verdicts, WorkedExamples};
 

@@ -9,7 +9,7 @@ returns c = record {
   registers = search rules;
   majority = search rules;
   ladder = search rules;
-  by-registers = registers_alone;
+  by_registers = registers_alone;
   by_majority = majority_alone;
   by_ladder = ladder_alone;
 }

@@ -6,4 +6,4 @@ use Rattle.model.proofs.lone_steps.Goals as goal
 
 pub returns : goal.returns
 unfolding first_of named listed count_names largest
-returns c = record { by-registers = (refl, refl); by_majority = (refl, refl); by_ladder = (refl, refl) }
+returns c = record { by_registers = (refl, refl); by_majority = (refl, refl); by_ladder = (refl, refl) }

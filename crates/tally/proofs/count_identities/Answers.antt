@@ -2,7 +2,7 @@ use Rattle.std.proofs.Common.{◌≡◌, ◌+◌, true, false, length, get_or, s
 use Rattle.tally.specs.Counts.{count_names, is_new}
 use Rattle.tally.proofs.CountLaws.{count_yes, count_no, count_at_most, at_next}
 use Rattle.tally.proofs.count_identities.Goals as goal
-use Rattle.tally.proofs.count_identities.Goals.{then-is-new-owner, else-is-new-owner}
+use Rattle.tally.proofs.count_identities.Goals.{then-is_new_owner, else-is_new_owner}
 
 pub loop-before-init : goal.loop-before-init
 unfolding count_names
@@ -15,9 +15,9 @@ pub loop-before-preserved : goal.loop-before-preserved
 loop-before-preserved c =
     let test = is_new c.args.marks.now in
     let n = c.loop-before.before in
-    elim c.if-is-new-owner.branch [
-      | then-is-new-owner w ↦ w.count_is ∙ ap (λ k. k + 1) c.loop-before.invariant ∙ sym (count_yes test n (sym c.is-new-owner.ensures.value ∙ w.if-is-new-owner.true))
-      | else-is-new-owner w ↦ w.count_is ∙ c.loop-before.invariant ∙ sym (count_no test n (sym c.is-new-owner.ensures.value ∙ w.if-is-new-owner.false))
+    elim c.if-is_new_owner.branch [
+      | then-is_new_owner w ↦ w.count_is ∙ ap (λ k. k + 1) c.loop-before.invariant ∙ sym (count_yes test n (sym c.is_new_owner.ensures.value ∙ w.if-is_new_owner.true))
+      | else-is_new_owner w ↦ w.count_is ∙ c.loop-before.invariant ∙ sym (count_no test n (sym c.is_new_owner.ensures.value ∙ w.if-is_new_owner.false))
     ]
 
 pub returns : goal.returns

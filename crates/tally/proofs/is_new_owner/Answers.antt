@@ -27,4 +27,4 @@ returns-in-Owner c =
     let ms = c.args.marks.now in
     let n = c.args.before in
     let k = get_or ms n Empty in
-    record { value = new_at ms n k c.is-none.result (omega arith) refl (ap is_owner c.in-Owner.is) (sym (ap is_some c.lowest-name-of.ensures.value) ∙ c.is-none.ensures) }
+    record { value = new_at ms n k c.is_none.result (omega arith) refl (ap is_owner c.in-Owner.is) (sym (ap is_some c.lowest_name_of.ensures.value) ∙ c.is_none.ensures) }

@@ -11,7 +11,7 @@ pub loop-before-preserved : goal.loop-before-preserved
 loop-before-preserved c =
     let ms = c.args.marks.now in
     let n = c.loop-before.before in
-    omega (arith, c.max-most.ensures, c.count-of-owner.ensures.value, c.loop-before.invariant, largest_more (times_at ms) n)
+    omega (arith, c.max-most.ensures, c.count_of_owner.ensures.value, c.loop-before.invariant, largest_more (times_at ms) n)
 
 pub returns : goal.returns
 returns c =

@@ -17,7 +17,7 @@ pub returns-then-number-lt1 : goal.returns-then-number-lt1
 returns-then-number-lt1 g c =
     let row = g.R.Row.numbers c.args.row.now in
     let i = c.loop-place.place in
-    let read = c.number-at-number.ensures.value in
+    let read = c.number_at-number.ensures.value in
     let bad : (1 ≤ row i) × (row i ≤ c.args.most) → repeats row i ≡ true =
     λ w.
     elim c.then-number-lt1.branch [
@@ -33,7 +33,7 @@ pub loop-place-preserved : goal.loop-place-preserved
 loop-place-preserved g c =
     let row = g.R.Row.numbers c.args.row.now in
     one_more row c.args.most c.loop-place.place
-    (fits row c.args.most c.loop-place.place c.number-at-number.result c.number-at-number.ensures.value c.if-number-lt1.false c.if-number-most.false (sym c.repeated.ensures.value ∙ c.if-repeated.false))
+    (fits row c.args.most c.loop-place.place c.number_at-number.result c.number_at-number.ensures.value c.if-number-lt1.false c.if-number-most.false (sym c.repeated.ensures.value ∙ c.if-repeated.false))
     c.loop-place.invariant
 
 pub returns : goal.returns
@@ -47,7 +47,7 @@ returns-else-repeated g c =
     let row = g.R.Row.numbers c.args.row.now in
     let all =
     one_more row c.args.most c.loop-place.place
-    (fits row c.args.most c.loop-place.place c.number-at-number.result c.number-at-number.ensures.value c.if-number-lt1.false c.if-number-most.false (sym c.repeated.ensures.value ∙ c.if-repeated.false))
+    (fits row c.args.most c.loop-place.place c.number_at-number.result c.number_at-number.ensures.value c.if-number-lt1.false c.if-number-most.false (sym c.repeated.ensures.value ∙ c.if-repeated.false))
     c.loop-place.invariant
     in
     let h = answered_none row c.args.most c.args.count (λ k a b. all k a (omega arith)) in

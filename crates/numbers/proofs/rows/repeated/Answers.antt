@@ -3,18 +3,18 @@ use Rattle.std.proofs.lemmas.Bool.{cases_eq}
 use Rattle.numbers.proofs.RowLaws.{repeats_here, repeats_not}
 use Rattle.numbers.proofs.rows.repeated.Goals as goal
 
-pub returns-then-number-at-number : goal.returns-then-number-at-number
-returns-then-number-at-number g c =
+pub returns-then-number_at-number : goal.returns-then-number_at-number
+returns-then-number_at-number g c =
     let row = g.R.Row.numbers c.args.row.now in
     record {
-      value = sym (repeats_here row c.args.place c.loop-earlier.earlier (omega arith) (omega arith) (sym c.number-at.ensures.value ∙ c.if-number-at-number.true ∙ c.number-at-number.ensures.value));
+      value = sym (repeats_here row c.args.place c.loop-earlier.earlier (omega arith) (omega arith) (sym c.number_at.ensures.value ∙ c.if-number_at-number.true ∙ c.number_at-number.ensures.value));
     }
 
 pub loop-earlier-preserved : goal.loop-earlier-preserved
 loop-earlier-preserved g c j a b e =
     let row = g.R.Row.numbers c.args.row.now in
     ⊎_elim
-    (λ same. c.if-number-at-number.false (c.number-at.ensures.value ∙ subst (λ n. row n ≡ c.number-at-number.result) same e))
+    (λ same. c.if-number_at-number.false (c.number_at.ensures.value ∙ subst (λ n. row n ≡ c.number_at-number.result) same e))
     (λ other. c.loop-earlier.invariant j a (omega arith) e)
     (cases_eq j c.loop-earlier.earlier)
 
@@ -22,5 +22,5 @@ pub returns : goal.returns
 returns g c =
     let row = g.R.Row.numbers c.args.row.now in
     record {
-      value = sym (repeats_not row c.args.place (λ j a b e. c.loop-earlier.invariant j a (omega arith) (e ∙ sym c.number-at-number.ensures.value)));
+      value = sym (repeats_not row c.args.place (λ j a b e. c.loop-earlier.invariant j a (omega arith) (e ∙ sym c.number_at-number.ensures.value)));
     }

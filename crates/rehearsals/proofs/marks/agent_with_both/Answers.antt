@@ -6,13 +6,13 @@ use Rattle.plan.specs.Plans.{model}
 use Rattle.rehearsals.specs.Twins.{is_number, has_both}
 use Rattle.rehearsals.proofs.marks.agent_with_both.Goals as goal
 
-pub returns-then-has-identity-2 : goal.returns-then-has-identity-2
-returns-then-has-identity-2 c =
+pub returns-then-has_identity-2 : goal.returns-then-has_identity-2
+returns-then-has_identity-2 c =
     let p = model c.args.plan.now in
     let q = model c.args.twin.now in
     let k = c.loop-before.before + 1 in
-    let one = sym c.has-identity.ensures.value ∙ c.if-has-identity.true in
-    let two = sym c.has-identity-then-has-identity.ensures.value ∙ c.if-has-identity-2.true in
+    let one = sym c.has_identity.ensures.value ∙ c.if-has_identity.true in
+    let two = sym c.has_identity-then-has_identity.ensures.value ∙ c.if-has_identity-2.true in
     record {
       value = sym (first_up_to (has_both p q c.args.one c.args.other) p.agents k (omega arith) (omega (arith, c.agents-before-end.ensures.value)) (and_from (is_number (named p.identities k) c.args.one) (is_number (named q.identities k) c.args.other) one two) c.loop-before.invariant);
     }

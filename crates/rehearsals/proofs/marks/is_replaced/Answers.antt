@@ -10,7 +10,7 @@ returns-in-Owner-Owner c =
     let a = c.args.mark in
     let b = c.args.other in
     let owners = c.in-Owner-Owner in
-    let value = c.is-some.ensures ∙ ap is_some c.agent-with-both.ensures.value ∙ sym (owners_tested p q a b owners.one owners.two owners.is-0 owners.is-1) in
+    let value = c.is_some.ensures ∙ ap is_some c.agent_with_both.ensures.value ∙ sym (owners_tested p q a b owners.one owners.two owners.is-0 owners.is-1) in
     record { value = value; replaces = λ e. replaced_tells p q a b (sym value ∙ e) }
 
 pub returns-in-Rung-Rung : goal.returns-in-Rung-Rung

@@ -9,11 +9,11 @@ pub returns : goal.returns
 returns g c =
     let text = report_text g.R.Rule.number (world g.S.CellStore.marks c.args.rig.now) in
     let buffer = c.args.buffer.now in
-    let value = c.copy-to.ensures.value ∙ ap (λ t. copy_answer t buffer) c.sheet-of.ensures.value in
-    let fits : length text ≤ 2336 = subst (λ t. length t ≤ 2336) c.sheet-of.ensures.value (sheet_small c.sheet-of.result) in
+    let value = c.copy_to.ensures.value ∙ ap (λ t. copy_answer t buffer) c.sheet_of.ensures.value in
+    let fits : length text ≤ 2336 = subst (λ t. length t ≤ 2336) c.sheet_of.ensures.value (sheet_small c.sheet_of.result) in
     record {
       value = value;
-      after = c.copy-to.ensures.after ∙ ap (λ t. copy_after t buffer) c.sheet-of.ensures.value;
+      after = c.copy_to.ensures.after ∙ ap (λ t. copy_after t buffer) c.sheet_of.ensures.value;
       enough = λ long. value ∙ copy_goes text buffer (omega arith);
       whole = whole (world g.S.CellStore.marks c.args.rig.now);
       fits = fits;

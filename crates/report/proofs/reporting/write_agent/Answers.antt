@@ -1,7 +1,7 @@
 use Rattle.report.proofs.BoundLaws.{figures_small}
 use Rattle.report.proofs.reporting.write_agent.Goals as goal
 
-pub agent-line-requires : goal.agent-line-requires
-agent-line-requires g c =
+pub agent_line-requires : goal.agent_line-requires
+agent_line-requires g c =
     let small = figures_small c.args.rig.now c.args.k c.in-Ok-figures.figures c.in-Ok-figures.ensures.value in
     record { name = c.requires.name; steps = small.steps; entries = small.entries; refused = small.refused; room = c.requires.room }

@@ -12,6 +12,6 @@ loop-before-init g c = (lines_none _ (written c.args.sheet.now), omega arith)
 pub loop-before-preserved : goal.loop-before-preserved
 loop-before-preserved g c =
     let told : ℕ → List ℕ = λ y. cell_told y (cell_answer (world g.S.CellStore.marks c.args.rig.now) y) in (
-      line_put told c.loop-before.before (written c.args.sheet.now) c.loop-before.invariant.0 c.write-cell.ensures.after,
-      omega (arith, c.loop-before.invariant.1, c.write-cell.ensures.used),
+      line_put told c.loop-before.before (written c.args.sheet.now) c.loop-before.invariant.0 c.write_cell.ensures.after,
+      omega (arith, c.loop-before.invariant.1, c.write_cell.ensures.used),
     )

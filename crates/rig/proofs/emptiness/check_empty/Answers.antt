@@ -10,14 +10,14 @@ pub loop-before-preserved : goal.loop-before-preserved
 loop-before-preserved g c =
     let ms = g.S.CellStore.marks c.args.store.now in
     let y = c.loop-before.before + 1 in
-    let r = read_gave ms y c.in-ok-mark.mark c.in-ok-mark.ensures.value in
+    let r = read_gave ms y c.in_ok-mark.mark c.in_ok-mark.ensures.value in
     none_push (taken ms) 1 y (ap (λ k. not (same_mark k Empty)) (sym r.1) ∙ ap not (sym c.if-not-is.ensures.value)) c.loop-before.invariant
 
 pub returns-then-not-is : goal.returns-then-not-is
 returns-then-not-is g c =
     let ms = g.S.CellStore.marks c.args.store.now in
     let y = c.loop-before.before + 1 in
-    let r = read_gave ms y c.in-ok-mark.mark c.in-ok-mark.ensures.value in
+    let r = read_gave ms y c.in_ok-mark.mark c.in_ok-mark.ensures.value in
     let long : length ms ≡ c.args.cells = sym c.count.ensures.value ∙ c.if-count-cells.false in
     record {
       value =

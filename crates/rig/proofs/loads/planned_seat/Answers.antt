@@ -7,8 +7,8 @@ pub returns : goal.returns
 returns g c =
     let p = c.args.plan.now in
     let R = meaning_of g.R.Rule in
-    let said = c.unwrap-or-identity.ensures ∙ ap (λ o. unwrap_or o 0) c.identity.ensures.value in
+    let said = c.unwrap_or-identity.ensures ∙ ap (λ o. unwrap_or o 0) c.identity.ensures.value in
     record {
-      value = seat_made R c.new_seat.result _ _ p.header.cells _ _ c.new_seat.ensures.value (identity_planned p.header p.file.now c.args.agent _ c.requires.first c.requires.last said) c.table-of.ensures.value;
+      value = seat_made R c.new_seat.result _ _ p.header.cells _ _ c.new_seat.ensures.value (identity_planned p.header p.file.now c.args.agent _ c.requires.first c.requires.last said) c.table_of.ensures.value;
       fresh = seat_fresh _ c.new_seat.result _ _ c.new_seat.ensures.value;
     }

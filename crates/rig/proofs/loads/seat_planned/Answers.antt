@@ -16,7 +16,7 @@ add-requires g c =
     omega (arith, long, c.requires.agents, c.agents-before-end.ensures.value)
 
 pub loop-before-preserved : goal.loop-before-preserved
-loop-before-preserved g c = seated_more _ c.args.plan.now.header.cells (seated_in c.loop-before.seats) (seated_in c.add.new.self) c.planned-seat.result c.loop-before.before c.add.ensures.after c.planned-seat.ensures.value c.planned-seat.ensures.fresh c.loop-before.invariant
+loop-before-preserved g c = seated_more _ c.args.plan.now.header.cells (seated_in c.loop-before.seats) (seated_in c.add.new.self) c.planned_seat.result c.loop-before.before c.add.ensures.after c.planned_seat.ensures.value c.planned_seat.ensures.fresh c.loop-before.invariant
 
 pub returns : goal.returns
 returns g c =

@@ -11,8 +11,8 @@ pub loop-before-preserved : goal.loop-before-preserved
 loop-before-preserved c =
     let p = c.args.plan.now in
     let i = c.loop-before.before in
-    let v = c.unwrap-or.result in
-    let said = c.unwrap-or.ensures ∙ ap (λ o. unwrap_or o 0) c.table-entry.ensures.value in
+    let v = c.unwrap_or.result in
+    let said = c.unwrap_or.ensures ∙ ap (λ o. unwrap_or o 0) c.table_entry.ensures.value in
     let few = c.cells-before-end.ensures.value in
     let here : v ≡ entry_at p.header p.file.now c.args.agent (i + 1) = entry_planned p.header p.file.now c.args.agent c.requires.first c.requires.last (i + 1) v (omega arith) (omega arith) said in (
       length-set c.loop-before.table i v ∙ c.loop-before.invariant.0,

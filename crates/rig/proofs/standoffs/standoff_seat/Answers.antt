@@ -7,6 +7,6 @@ pub returns : goal.returns
 returns g c =
     let R = meaning_of g.R.Rule in
     record {
-      value = seat_made R c.new_seat.result _ c.args.agent c.args.cells _ _ c.new_seat.ensures.value refl c.standoff-table.ensures.value;
+      value = seat_made R c.new_seat.result _ c.args.agent c.args.cells _ _ c.new_seat.ensures.value refl c.standoff_table.ensures.value;
       fresh = seat_fresh _ c.new_seat.result _ _ c.new_seat.ensures.value;
     }

@@ -17,7 +17,7 @@ returns g c =
     let told = report_text g.R.Rule.number (world g.S.CellStore.marks c.play.new.rig) in
     let text = run_text R old file in
     let texts : told ≡ text = ap (report_text g.R.Rule.number) c.play.ensures.after in
-    let loaded : Ok tt ≡ load_answer R old file = sym c.in-ok-play.was ∙ c.play.ensures.value in
+    let loaded : Ok tt ≡ load_answer R old file = sym c.in_ok-play.was ∙ c.play.ensures.value in
     record {
       value = c.report.ensures.value ∙ ap (λ t. copy_answer t buffer) texts ∙ ap (λ k. unless_refused k (copy_answer text buffer)) loaded;
       after = c.report.ensures.after ∙ ap (λ t. copy_after t buffer) texts ∙ ap (λ k. after_check k (copy_after text buffer) buffer) loaded;

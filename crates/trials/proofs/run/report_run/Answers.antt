@@ -14,9 +14,9 @@ returns g c =
     let blank : world table_marks c.new-rig.result ≡ blank_over g.row.R-Phase.Denot file =
     c.new-rig.ensures.value ∙ ap (blank_world g.row.R-Phase.Denot) (c.new.ensures.value ∙ ap empty_cells c.cells_asked.ensures.value) in
     record {
-      value = c.report-play-answer.ensures.value ∙ ap (λ w. run_answer R w file buffer) blank;
-      after = c.report-play-answer.ensures.after ∙ ap (λ w. run_buffer R w file buffer) blank;
-      enough = λ long. c.report-play-answer.ensures.enough long ∙ ap (λ w. run_length R w file) blank;
-      inside = c.report-play-answer.ensures.inside;
-      no_two_holders = c.report-play-answer.ensures.no_two_holders;
+      value = c.report_play-answer.ensures.value ∙ ap (λ w. run_answer R w file buffer) blank;
+      after = c.report_play-answer.ensures.after ∙ ap (λ w. run_buffer R w file buffer) blank;
+      enough = λ long. c.report_play-answer.ensures.enough long ∙ ap (λ w. run_length R w file) blank;
+      inside = c.report_play-answer.ensures.inside;
+      no_two_holders = c.report_play-answer.ensures.no_two_holders;
     }

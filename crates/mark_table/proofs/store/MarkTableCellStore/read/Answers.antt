@@ -9,5 +9,5 @@ returns c =
     let n = c.count.result in
     let counted = c.count.ensures.value in
     let y = c.args.name in
-    let name = c.in-ok-check-name.ensures.value in
+    let name = c.in_ok-check_name.ensures.value in
     record { value = read_accepted (table_marks t) n y counted name _ (there t n y counted name) }

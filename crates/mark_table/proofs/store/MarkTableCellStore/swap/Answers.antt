@@ -13,9 +13,9 @@ returns-then-found c =
     let y = c.args.name in
     let old = c.args.old in
     let new = c.args.new in
-    let name = c.in-ok-check-name.ensures.value in
-    let Good_old = c.in-ok-check-mark.ensures.value in
-    let Good_new = c.in-ok-check-mark-2.ensures.value in
+    let name = c.in_ok-check_name.ensures.value in
+    let Good_old = c.in_ok-check_mark.ensures.value in
+    let Good_new = c.in_ok-check_mark-2.ensures.value in
     let found = c.is-found.ensures.value ∙ ap (λ k. same_mark k old) (there t n y counted name) in
     record {
       value = swap_accepted (table_marks t) n y counted name old new _ Good_old Good_new found;
@@ -31,9 +31,9 @@ returns-else-found c =
     let y = c.args.name in
     let old = c.args.old in
     let new = c.args.new in
-    let name = c.in-ok-check-name.ensures.value in
-    let Good_old = c.in-ok-check-mark.ensures.value in
-    let Good_new = c.in-ok-check-mark-2.ensures.value in
+    let name = c.in_ok-check_name.ensures.value in
+    let Good_old = c.in_ok-check_mark.ensures.value in
+    let Good_new = c.in_ok-check_mark-2.ensures.value in
     let found = c.is-found.ensures.value ∙ ap (λ k. same_mark k old) (there t n y counted name) in
     record {
       value = swap_accepted (table_marks t) n y counted name old new _ Good_old Good_new found;

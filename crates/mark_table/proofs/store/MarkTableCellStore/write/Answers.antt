@@ -11,8 +11,8 @@ returns c =
     let counted = c.count.ensures.value in
     let y = c.args.name in
     let k = c.args.mark in
-    let name = c.in-ok-check-name.ensures.value in
-    let good = c.in-ok-check-mark.ensures.value in
+    let name = c.in_ok-check_name.ensures.value in
+    let good = c.in_ok-check_mark.ensures.value in
     record {
       value = write_accepted (table_marks t) n y counted name k good;
       after = write_put (table_marks t) n y counted name k _ good (changes t n y counted name k);

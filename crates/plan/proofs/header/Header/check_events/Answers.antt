@@ -5,20 +5,20 @@ use Rattle.refusal.specs.Checks.{refuse_at}
 use Rattle.plan.specs.Checks.{known}
 use Rattle.plan.proofs.header.Header.check_events.Goals as goal
 
-pub returns-then-not-knows-event : goal.returns-then-not-knows-event
-returns-then-not-knows-event c =
+pub returns-then-not-knows_event : goal.returns-then-not-knows_event
+returns-then-not-knows_event c =
     let h = c.args.self.now in
     let f = c.args.file.now in
     record {
       value =
           sym
           (ap (refuse_at BadEvent)
-          (first_up_to (λ i. not (known h f i)) h.count c.loop-event.event c.loop-event.auto.event c.loop-event-test.true (ap not (sym c.if-not-knows-event.ensures.value)) c.loop-event.invariant));
+          (first_up_to (λ i. not (known h f i)) h.count c.loop-event.event c.loop-event.auto.event c.loop-event-test.true (ap not (sym c.if-not-knows_event.ensures.value)) c.loop-event.invariant));
     }
 
 pub loop-event-preserved : goal.loop-event-preserved
 loop-event-preserved c =
-    none_push (λ i. not (known c.args.self.now c.args.file.now i)) 1 c.loop-event.event (ap not (sym c.if-not-knows-event.ensures.value)) c.loop-event.invariant
+    none_push (λ i. not (known c.args.self.now c.args.file.now i)) 1 c.loop-event.event (ap not (sym c.if-not-knows_event.ensures.value)) c.loop-event.invariant
 
 pub returns : goal.returns
 returns c =
@@ -28,11 +28,11 @@ returns c =
       value = sym (ap (refuse_at BadEvent) (none_up_to (λ i. not (known h f i)) h.count (λ k a b. c.loop-event.invariant k a (omega arith))));
     }
 
-pub returns-else-not-knows-event : goal.returns-else-not-knows-event
-returns-else-not-knows-event c =
+pub returns-else-not-knows_event : goal.returns-else-not-knows_event
+returns-else-not-knows_event c =
     let h = c.args.self.now in
     let f = c.args.file.now in
-    let all = none_push (λ i. not (known h f i)) 1 c.loop-event.event (ap not (sym c.if-not-knows-event.ensures.value)) c.loop-event.invariant in
+    let all = none_push (λ i. not (known h f i)) 1 c.loop-event.event (ap not (sym c.if-not-knows_event.ensures.value)) c.loop-event.invariant in
     record {
       value = sym (ap (refuse_at BadEvent) (none_up_to (λ i. not (known h f i)) h.count (λ k a b. all k a (omega arith))));
     }

@@ -10,7 +10,7 @@ returns-in-Some c =
     let h = c.args.self.now in
     let f = c.args.file.now in
     let k = c.loop-agent.agent in
-    let found = sym c.misfit-in-table.ensures.value ∙ c.in-Some.is in
+    let found = sym c.misfit_in_table.ensures.value ∙ c.in-Some.is in
     record {
       value =
           sym
@@ -21,7 +21,7 @@ returns-in-Some c =
 
 pub loop-agent-preserved : goal.loop-agent-preserved
 loop-agent-preserved c =
-    let found = sym c.misfit-in-table.ensures.value ∙ c.in-default.is in
+    let found = sym c.misfit_in_table.ensures.value ∙ c.in_default.is in
     none_push (λ j. is_some (row_misfit c.args.self.now c.args.file.now j)) 1 c.loop-agent.agent (ap is_some found) c.loop-agent.invariant
 
 pub returns : goal.returns
@@ -32,11 +32,11 @@ returns c =
       value = sym (ap (refuse_in_table h f) (none_up_to (λ j. is_some (row_misfit h f j)) h.agents (λ k a b. c.loop-agent.invariant k a (omega arith))));
     }
 
-pub returns-in-default : goal.returns-in-default
-returns-in-default c =
+pub returns-in_default : goal.returns-in_default
+returns-in_default c =
     let h = c.args.self.now in
     let f = c.args.file.now in
-    let found = sym c.misfit-in-table.ensures.value ∙ c.in-default.is in
+    let found = sym c.misfit_in_table.ensures.value ∙ c.in_default.is in
     let all = none_push (λ j. is_some (row_misfit h f j)) 1 c.loop-agent.agent (ap is_some found) c.loop-agent.invariant in
     record {
       value = sym (ap (refuse_in_table h f) (none_up_to (λ j. is_some (row_misfit h f j)) h.agents (λ k a b. all k a (omega arith))));

@@ -3,14 +3,14 @@ use Rattle.numbers.proofs.NameLaws.{named_in, named_out}
 use Rattle.plan.specs.Plans.{identity_at}
 use Rattle.plan.proofs.plan.Plan.identity.Goals as goal
 
-pub returns-then-not-is-name : goal.returns-then-not-is-name
-returns-then-not-is-name c =
+pub returns-then-not-is_name : goal.returns-then-not-is_name
+returns-then-not-is_name c =
     let p = c.args.self.now in
-    record { value = sym (named_out (identity_at p.header p.file.now) p.header.agents c.args.agent (rw c.agents.ensures.value at (sym c.if-not-is-name.ensures.value))) }
+    record { value = sym (named_out (identity_at p.header p.file.now) p.header.agents c.args.agent (rw c.agents.ensures.value at (sym c.if-not-is_name.ensures.value))) }
 
 pub returns : goal.returns
 returns c =
     let p = c.args.self.now in
     record {
-      value = ap Some c.word-at.ensures.value ∙ sym (named_in (identity_at p.header p.file.now) p.header.agents c.args.agent (rw c.agents.ensures.value at (sym c.if-not-is-name.ensures.value)));
+      value = ap Some c.word_at.ensures.value ∙ sym (named_in (identity_at p.header p.file.now) p.header.agents c.args.agent (rw c.agents.ensures.value at (sym c.if-not-is_name.ensures.value)));
     }

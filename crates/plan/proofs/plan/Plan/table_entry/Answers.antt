@@ -4,19 +4,19 @@ use Rattle.numbers.proofs.NameLaws.{named_in, named_out}
 use Rattle.plan.specs.Plans.{entry_at, entry_in}
 use Rattle.plan.proofs.plan.Plan.table_entry.Goals as goal
 
-pub returns-then-not-is-name : goal.returns-then-not-is-name
-returns-then-not-is-name c =
+pub returns-then-not-is_name : goal.returns-then-not-is_name
+returns-then-not-is_name c =
     let p = c.args.self.now in
     let row = λ (k : ℕ). listed (entry_at p.header p.file.now k) p.header.cells in
-    let out = rw c.agents.ensures.value at (sym c.if-not-is-name.ensures.value) in
+    let out = rw c.agents.ensures.value at (sym c.if-not-is_name.ensures.value) in
     record { value = sym (ap (λ o. entry_in o c.args.name) (named_out row p.header.agents c.args.agent out)) }
 
-pub returns-then-not-is-name-2 : goal.returns-then-not-is-name-2
-returns-then-not-is-name-2 c =
+pub returns-then-not-is_name-2 : goal.returns-then-not-is_name-2
+returns-then-not-is_name-2 c =
     let p = c.args.self.now in
     let row = λ (k : ℕ). listed (entry_at p.header p.file.now k) p.header.cells in
-    let in' = rw c.agents.ensures.value at (sym c.if-not-is-name.ensures.value) in
-    let out = rw c.cells-cells.ensures.value at (sym c.if-not-is-name-2.ensures.value) in
+    let in' = rw c.agents.ensures.value at (sym c.if-not-is_name.ensures.value) in
+    let out = rw c.cells-cells.ensures.value at (sym c.if-not-is_name-2.ensures.value) in
     record {
       value =
           sym
@@ -28,9 +28,9 @@ pub returns : goal.returns
 returns c =
     let p = c.args.self.now in
     let row = λ (k : ℕ). listed (entry_at p.header p.file.now k) p.header.cells in
-    let in' = rw c.agents.ensures.value at (sym c.if-not-is-name.ensures.value) in
-    let also = rw c.cells-cells.ensures.value at (sym c.if-not-is-name-2.ensures.value) in
-    let read = rw c.cells-cells.ensures.value at c.byte-at.ensures.value in
+    let in' = rw c.agents.ensures.value at (sym c.if-not-is_name.ensures.value) in
+    let also = rw c.cells-cells.ensures.value at (sym c.if-not-is_name-2.ensures.value) in
+    let read = rw c.cells-cells.ensures.value at c.byte_at.ensures.value in
     record {
       value =
           ap Some read

@@ -4,11 +4,11 @@ use Rattle.record_file.specs.Records.{records}
 use Rattle.record_file.proofs.RecordLaws.{inside, room, read}
 use Rattle.record_file.proofs.store.RecordFileCellStore.read.Goals as goal
 
-pub mark-at-requires : goal.mark-at-requires
-mark-at-requires c =
+pub mark_at-requires : goal.mark_at-requires
+mark_at-requires c =
     let f = c.args.self.now.file.now in
     let counted = c.count.ensures.value in
-    let name = c.in-ok-check-name.ensures.value in
+    let name = c.in_ok-check_name.ensures.value in
     record { low = (inside f c.count.result c.args.name counted name).0; room = room f c.count.result c.args.name counted name }
 
 pub returns : goal.returns
@@ -17,5 +17,5 @@ returns c =
     let n = c.count.result in
     let y = c.args.name in
     let counted = c.count.ensures.value in
-    let name = c.in-ok-check-name.ensures.value in
+    let name = c.in_ok-check_name.ensures.value in
     record { value = read_accepted (records f) n y counted name _ (c.mark_at.ensures.value ∙ read f n y counted name) }

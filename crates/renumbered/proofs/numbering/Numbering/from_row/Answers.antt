@@ -14,6 +14,6 @@ one_more row names i x less is before y a b =
 
 pub loop-i-preserved : goal.loop-i-preserved
 loop-i-preserved g c = (
-  length-set c.loop-i.names c.loop-i.i c.number-at.result ∙ c.loop-i.invariant.0,
-  one_more (g.R.Row.numbers c.args.row.now) c.loop-i.names c.loop-i.i c.number-at.result (omega arith) c.number-at.ensures.value c.loop-i.invariant.1,
+  length-set c.loop-i.names c.loop-i.i c.number_at.result ∙ c.loop-i.invariant.0,
+  one_more (g.R.Row.numbers c.args.row.now) c.loop-i.names c.loop-i.i c.number_at.result (omega arith) c.number_at.ensures.value c.loop-i.invariant.1,
 )

@@ -8,4 +8,4 @@ not_not false = refl
 
 pub returns : goal.returns
 unfolding arranged
-returns c = record { value = sym (not_not c.is-none.result) ∙ ap not (sym c.is-none.ensures ∙ ap is_some c.first_misfit.ensures.value) }
+returns c = record { value = sym (not_not c.is_none.result) ∙ ap not (sym c.is_none.ensures ∙ ap is_some c.first_misfit.ensures.value) }

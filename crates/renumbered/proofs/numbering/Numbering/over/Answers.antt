@@ -1,8 +1,8 @@
 use Rattle.renumbered.proofs.TableLaws.{table_all, both, both_distinct, both_stay}
 use Rattle.renumbered.proofs.numbering.Numbering.over.Goals as goal
 
-pub from-row-requires : goal.from-row-requires
-from-row-requires c = record { small = c.requires; distinct = both_distinct c.args.self c.args.lower c.args.cells }
+pub from_row-requires : goal.from_row-requires
+from_row-requires c = record { small = c.requires; distinct = both_distinct c.args.self c.args.lower c.args.cells }
 
 pub returns : goal.returns
 returns c =
@@ -10,5 +10,5 @@ returns c =
     let s = c.args.self in
     let lower = c.args.lower in
     record {
-      names = table_all c.from-row.result k (both s lower k) c.from-row.ensures.count c.from-row.ensures.names (both_distinct s lower k) (both_stay s lower k);
+      names = table_all c.from_row.result k (both s lower k) c.from_row.ensures.count c.from_row.ensures.names (both_distinct s lower k) (both_stay s lower k);
     }

@@ -8,8 +8,8 @@ use Rattle.renumbered.proofs.renumbered.Renumbered.new.Goals as goal
 pub returns : goal.returns
 returns g c =
     let ms = g.S.CellStore.marks c.args.store in
-    let n = c.from-row-numbering.result in
+    let n = c.from_row-numbering.result in
     let stay : (y : ℕ) → by_table n (length ms) y ≡ y =
-    table_all n (length ms) (λ y. y) (c.from-row-numbering.ensures.count ∙ c.count.ensures.value) (λ y a b. c.from-row-numbering.ensures.names y a (omega arith)) (distinct_places (length ms)) (λ y out. refl)
+    table_all n (length ms) (λ y. y) (c.from_row-numbering.ensures.count ∙ c.count.ensures.value) (λ y a b. c.from_row-numbering.ensures.names y a (omega arith)) (distinct_places (length ms)) (λ y out. refl)
     in
     record { store = refl; names = stay; marks = renumbered_not (by_table n (length ms)) ms (λ y a b. stay y); same = refl }

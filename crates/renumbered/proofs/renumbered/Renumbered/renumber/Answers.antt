@@ -12,11 +12,11 @@ returns-in-None g c =
     let marks = g.S.CellStore.marks in
     let ms = marks s.store in
     let row = c.args.row.now in
-    let n = c.from-row-self.result in
+    let n = c.from_row-self.result in
     let is : Ok tt ≡ row_answer marks s row = search rules in
     let c0 = c.count-count.ensures.value in
     let distinct : Distinct (entry row) (length ms) (length ms) = subst (λ k. Distinct (entry row) k k) c0 (c.in-None.ensures.passes.0 refl) in
-    let names = table_in n (length ms) (entry row) (c.from-row-self.ensures.count ∙ c.count-count.ensures.value) (λ y a b. c.from-row-self.ensures.names y a (omega arith)) distinct in
+    let names = table_in n (length ms) (entry row) (c.from_row-self.ensures.count ∙ c.count-count.ensures.value) (λ y a b. c.from_row-self.ensures.names y a (omega arith)) distinct in
     record {
       value = is;
       names = λ y a b. names y a b ∙ ap (λ r. cond (is_ok r) (entry row y) (stands_for marks s y)) is;

@@ -6,13 +6,13 @@ use Rattle.cells.specs.declared.mark.Mark.{Mark}
 use Rattle.renumbered.proofs.CallLaws.{answer_refused, after_refused, answer_taken, after_taken}
 use Rattle.renumbered.proofs.renumbered.RenumberedCellStore.swap.Goals as goal
 
-pub returns-in-err-below : goal.returns-in-err-below
-returns-in-err-below g c =
+pub returns-in_err-below : goal.returns-in_err-below
+returns-in_err-below g c =
     let s = c.args.self.now in
     let ms = g.S.CellStore.marks s.store in
     let F = λ (m : Mark). mark_check c.args.old then mark_check c.args.new then Ok (same_mark m c.args.old) in
-    let p = err_from_is_err_and c.from-residual.result c.from-residual.ensures.1 in
-    let is = c.in-err-below.ensures.value in
+    let p = err_from_is_err_and c.from_residual.result c.from_residual.ensures.1 in
+    let is = c.in_err-below.ensures.value in
     record {
       value = p.1 ∙ ap Err p.2 ∙ answer_refused s.numbering ms c.args.name F _ is;
       after = after_refused s.numbering ms c.args.name F says_yes c.args.new _ refl is;
@@ -24,7 +24,7 @@ returns g c =
     let s = c.args.self.now in
     let ms = g.S.CellStore.marks s.store in
     let F = λ (m : Mark). mark_check c.args.old then mark_check c.args.new then Ok (same_mark m c.args.old) in
-    let is = c.in-ok-below.ensures.value in
+    let is = c.in_ok-below.ensures.value in
     record {
       value = c.swap.ensures.value ∙ answer_taken s.numbering ms c.args.name F _ is;
       after = after_taken s.numbering ms c.args.name F _ is says_yes c.args.new _ c.swap.ensures.after;

@@ -4,12 +4,12 @@ use Rattle.cells.specs.Marks.{mark_check}
 use Rattle.renumbered.proofs.CallLaws.{answer_refused, after_refused, answer_taken, after_taken}
 use Rattle.renumbered.proofs.renumbered.RenumberedCellStore.write.Goals as goal
 
-pub returns-in-err-below : goal.returns-in-err-below
-returns-in-err-below g c =
+pub returns-in_err-below : goal.returns-in_err-below
+returns-in_err-below g c =
     let s = c.args.self.now in
     let ms = g.S.CellStore.marks s.store in
-    let p = err_from_is_err_and c.from-residual.result c.from-residual.ensures.1 in
-    let is = c.in-err-below.ensures.value in
+    let p = err_from_is_err_and c.from_residual.result c.from_residual.ensures.1 in
+    let is = c.in_err-below.ensures.value in
     record {
       value = p.1 ∙ ap Err p.2 ∙ answer_refused s.numbering ms c.args.name (λ _. mark_check c.args.mark) _ is;
       after = after_refused s.numbering ms c.args.name (λ _. mark_check c.args.mark) is_ok c.args.mark _ refl is;
@@ -20,7 +20,7 @@ pub returns : goal.returns
 returns g c =
     let s = c.args.self.now in
     let ms = g.S.CellStore.marks s.store in
-    let is = c.in-ok-below.ensures.value in
+    let is = c.in_ok-below.ensures.value in
     record {
       value = c.write.ensures.value ∙ answer_taken s.numbering ms c.args.name (λ _. mark_check c.args.mark) _ is;
       after = after_taken s.numbering ms c.args.name (λ _. mark_check c.args.mark) _ is is_ok c.args.mark _ c.write.ensures.after;

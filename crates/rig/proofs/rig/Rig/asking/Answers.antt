@@ -6,7 +6,7 @@ use Rattle.model.specs.Rigs.{is_asking, section_at}
 use Rattle.rig.specs.Seating.{seated_in}
 use Rattle.rig.specs.Worlds.{rig_of, seat_over}
 use Rattle.rig.proofs.rig.Rig.asking.Goals as goal
-use Rattle.rig.proofs.rig.Rig.asking.Goals.{then-is-asking, else-is-asking}
+use Rattle.rig.proofs.rig.Rig.asking.Goals.{then-is_asking, else-is_asking}
 
 pub loop-before-init : goal.loop-before-init
 unfolding count_names
@@ -21,10 +21,10 @@ pub loop-before-preserved : goal.loop-before-preserved
 loop-before-preserved g c =
     let test : ℕ → Bool = λ k. is_asking (section_at (rig_of c.args.self.now) k) in
     let n = c.loop-before.before in
-    let asked : test (n + 1) ≡ c.is_asking.result = ap is_asking (sym c.section-or-idle.ensures.value) ∙ sym c.is_asking.ensures.value in
-    elim c.if-is-asking.branch [
-      | then-is-asking w ↦ w.asking-is ∙ ap (λ k. k + 1) c.loop-before.invariant ∙ sym (count_yes test n (asked ∙ w.if-is-asking.true))
-      | else-is-asking w ↦ w.asking-is ∙ c.loop-before.invariant ∙ sym (count_no test n (asked ∙ w.if-is-asking.false))
+    let asked : test (n + 1) ≡ c.is_asking.result = ap is_asking (sym c.section_or_idle.ensures.value) ∙ sym c.is_asking.ensures.value in
+    elim c.if-is_asking.branch [
+      | then-is_asking w ↦ w.asking-is ∙ ap (λ k. k + 1) c.loop-before.invariant ∙ sym (count_yes test n (asked ∙ w.if-is_asking.true))
+      | else-is_asking w ↦ w.asking-is ∙ c.loop-before.invariant ∙ sym (count_no test n (asked ∙ w.if-is_asking.false))
     ]
 
 pub returns : goal.returns

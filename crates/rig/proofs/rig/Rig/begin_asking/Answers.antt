@@ -29,16 +29,16 @@ returns-in-Some g c =
     let record' = c.ask.ensures.after ∙ ap (λ a. g.R.Rule.asked a m s.agent) n in
     record {
       after =
-          c.note-crowd.ensures.after
+          c.note_crowd.ensures.after
           ∙ placed m old.heard old.crowd old.standoff ms xs c.args.k _ _ _ ms ms put (ap (with_agent (seat_over m s)) record') refl
           ∙ sym (asked_moved m old.heard old.crowd old.standoff ms xs c.args.k R s found);
-      same = c.note-crowd.ensures.same;
+      same = c.note_crowd.ensures.same;
     }
 
-pub returns-in-default : goal.returns-in-default
-returns-in-default g c =
+pub returns-in_default : goal.returns-in_default
+returns-in_default g c =
     let old = c.args.self.now in
     record {
-      after = unmoved old.cells old.heard old.crowd old.standoff (g.S.CellStore.marks old.store) (seated_in old.seats) c.args.k _ _ c.seat.follows.holds-at-none c.in-default.ensures.lent;
+      after = unmoved old.cells old.heard old.crowd old.standoff (g.S.CellStore.marks old.store) (seated_in old.seats) c.args.k _ _ c.seat.follows.holds-at-none c.in_default.ensures.lent;
       same = refl;
     }

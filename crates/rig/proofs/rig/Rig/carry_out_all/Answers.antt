@@ -9,8 +9,8 @@ use Rattle.rig.proofs.rig.Rig.carry_out_all.Goals as goal
 pub loop-before-init : goal.loop-before-init
 loop-before-init g c = (refl, omega arith, refl)
 
-pub carry-out-requires : goal.carry-out-requires
-carry-out-requires g c = omega (arith, c.loop-before.invariant.1, c.requires)
+pub carry_out-requires : goal.carry_out-requires
+carry_out-requires g c = omega (arith, c.loop-before.invariant.1, c.requires)
 
 pub loop-before-preserved : goal.loop-before-preserved
 loop-before-preserved g c =
@@ -18,11 +18,11 @@ loop-before-preserved g c =
     let n = c.loop-before.before in
     let w = world g.S.CellStore.marks c.args.self.now in
     let v = world g.S.CellStore.marks c.loop-before.self in
-    let after = c.carry-out.ensures.after in
+    let after = c.carry_out.ensures.after in
     let once = ap (λ u. u.rig.heard) after in (
       after ∙ ap (moved R v) c.given.ensures.value ∙ ap (λ u. moved R u (given c.args.round (n + 1))) c.loop-before.invariant.0 ∙ sym (in_turn_more (λ u k. moved R u (given c.args.round k)) w n),
       omega (arith, once, moved_heard R v c.given.result, c.loop-before.invariant.1),
-      c.carry-out.ensures.same ∙ c.loop-before.invariant.2,
+      c.carry_out.ensures.same ∙ c.loop-before.invariant.2,
     )
 
 pub returns : goal.returns

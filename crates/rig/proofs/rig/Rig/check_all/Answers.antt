@@ -9,13 +9,13 @@ use Rattle.rig.proofs.rig.Rig.check_all.Goals as goal
 pub loop-before-init : goal.loop-before-init
 loop-before-init g c k a b = absurd (omega arith)
 
-pub returns-then-is-err : goal.returns-then-is-err
-returns-then-is-err g c =
+pub returns-then-is_err : goal.returns-then-is_err
+returns-then-is_err g c =
     let r = c.args.round in
     let rig = rig_of c.args.self.now in
     let k = c.loop-before.before + 1 in
-    let verdict = c.check-section.ensures.value ∙ ap (λ e. section_check e c.section-or-idle.result) c.given.ensures.value ∙ ap (section_check (given r k)) c.section-or-idle.ensures.value in
-    let refused = refusing (section_check (given r k) (section_at rig k)) ∙ ap is_err (sym verdict) ∙ sym c.is-err.ensures.value ∙ c.if-is-err.true in
+    let verdict = c.check_section.ensures.value ∙ ap (λ e. section_check e c.section_or_idle.result) c.given.ensures.value ∙ ap (section_check (given r k)) c.section_or_idle.ensures.value in
+    let refused = refusing (section_check (given r k) (section_at rig k)) ∙ ap is_err (sym verdict) ∙ sym c.is_err.ensures.value ∙ c.if-is_err.true in
     record { value = ap Err c.refusal_of.ensures.value ∙ sym (one_may_not r rig c.args.together k (omega arith) (omega arith) refused c.loop-before.invariant) }
 
 pub loop-before-preserved : goal.loop-before-preserved
@@ -23,8 +23,8 @@ loop-before-preserved g c =
     let r = c.args.round in
     let rig = rig_of c.args.self.now in
     let k = c.loop-before.before + 1 in
-    let verdict = c.check-section.ensures.value ∙ ap (λ e. section_check e c.section-or-idle.result) c.given.ensures.value ∙ ap (section_check (given r k)) c.section-or-idle.ensures.value in
-    let passed = refusing (section_check (given r k) (section_at rig k)) ∙ ap is_err (sym verdict) ∙ sym c.is-err.ensures.value ∙ c.if-is-err.false in
+    let verdict = c.check_section.ensures.value ∙ ap (λ e. section_check e c.section_or_idle.result) c.given.ensures.value ∙ ap (section_check (given r k)) c.section_or_idle.ensures.value in
+    let passed = refusing (section_check (given r k) (section_at rig k)) ∙ ap is_err (sym verdict) ∙ sym c.is_err.ensures.value ∙ c.if-is_err.false in
     none_push (may_not r rig) 1 k passed c.loop-before.invariant
 
 pub returns : goal.returns

@@ -6,12 +6,12 @@ use Rattle.rig.specs.Seating.{seated_in}
 use Rattle.rig.specs.Worlds.{rig_of, seat_over}
 use Rattle.rig.proofs.rig.Rig.holder.Goals as goal
 
-pub returns-then-is-holding : goal.returns-then-is-holding
-returns-then-is-holding g c =
+pub returns-then-is_holding : goal.returns-then-is_holding
+returns-then-is_holding g c =
     let old = c.args.self.now in
     let i = c.loop-before.before in
     let long = length-map (seated_in old.seats) (seat_over old.cells) in
-    let held = ap is_holding (sym c.section-or-idle.ensures.value) ∙ sym c.is_holding.ensures.value ∙ c.if-is-holding.true in
+    let held = ap is_holding (sym c.section_or_idle.ensures.value) ∙ sym c.is_holding.ensures.value ∙ c.if-is_holding.true in
     record {
       value =
           sym

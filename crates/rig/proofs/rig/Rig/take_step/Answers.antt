@@ -19,8 +19,8 @@ invariant-of-self g c =
     let put = c.seat.follows.holds _ (ap is_some c.in-Some.is) in
     (old.few, (old.heard_few, (busiest_put xs _ c.args.k _ old.heard put old.counted (omega (arith, known, old.counted)), tt)))
 
-pub returns-in-err-outcome : goal.returns-in-err-outcome
-returns-in-err-outcome g c =
+pub returns-in_err-outcome : goal.returns-in_err-outcome
+returns-in_err-outcome g c =
     let old = c.args.self.now in
     let m = old.cells in
     let xs = seated_in old.seats in
@@ -32,8 +32,8 @@ returns-in-err-outcome g c =
     let put = c.seat.follows.holds s (ap is_some c.in-Some.is) in
     let n = agents_are m old.heard old.crowd old.standoff ms xs k R s found c.count-agents.result c.count-agents.ensures.value in
     let wanted = c.want-want.ensures.value ∙ ap (λ a. g.R.Rule.wants a m s.agent) n in
-    let refused = c.in-err-outcome.ensures.value in
-    let p = err_from_is_err_and c.from-residual.result c.from-residual.ensures.1 in
+    let refused = c.in_err-outcome.ensures.value in
+    let p = err_from_is_err_and c.from_residual.result c.from_residual.ensures.1 in
     let kept = c.serve.ensures.after ∙ store_kept m ms (seat_over m s) c.want-want.result _ (sym refused) in
     record {
       value = p.1 ∙ ap Err p.2 ∙ step_check m old.heard old.crowd old.standoff ms xs k R s found c.want-want.result wanted _ refused;
@@ -44,8 +44,8 @@ returns-in-err-outcome g c =
       same = c.serve.ensures.same;
     }
 
-pub count-step-requires : goal.count-step-requires
-count-step-requires g c =
+pub count_step-requires : goal.count_step-requires
+count_step-requires g c =
     let old = c.args.self.now in
     let known = peak_below (seated_in old.seats) c.args.k c.in-Some.seat.now c.in-Some.ensures.lent in
     record { steps = omega (arith, known, old.counted, old.heard_few); entries = omega (arith, known, old.counted, old.heard_few) }
@@ -55,12 +55,12 @@ invariant-of-self-in-Some g c =
     let old = c.args.self.now in
     let xs = seated_in old.seats in
     let known = peak_below xs c.args.k c.in-Some.seat.now c.in-Some.ensures.lent in
-    let put = c.seat.follows.holds c.count-step.new.self (ap is_some c.in-Some.is) in
-    let few = peak_stepped _ c.count-step.new.self old.heard c.count-step.ensures.after (omega (arith, known, old.counted)) in
-    (old.few, (omega arith, (busiest_put xs _ c.args.k c.count-step.new.self (old.heard + 1) put (omega (arith, old.counted)) few, tt)))
+    let put = c.seat.follows.holds c.count_step.new.self (ap is_some c.in-Some.is) in
+    let few = peak_stepped _ c.count_step.new.self old.heard c.count_step.ensures.after (omega (arith, known, old.counted)) in
+    (old.few, (omega arith, (busiest_put xs _ c.args.k c.count_step.new.self (old.heard + 1) put (omega (arith, old.counted)) few, tt)))
 
-pub returns-in-ok-outcome : goal.returns-in-ok-outcome
-returns-in-ok-outcome g c =
+pub returns-in_ok-outcome : goal.returns-in_ok-outcome
+returns-in_ok-outcome g c =
     let old = c.args.self.now in
     let m = old.cells in
     let xs = seated_in old.seats in
@@ -70,29 +70,29 @@ returns-in-ok-outcome g c =
     let want = c.want-want.result in
     let R = meaning_of g.R.Rule in
     let found = c.in-Some.ensures.lent in
-    let put = c.seat.follows.holds c.count-step.new.self (ap is_some c.in-Some.is) in
+    let put = c.seat.follows.holds c.count_step.new.self (ap is_some c.in-Some.is) in
     let n = agents_are m old.heard old.crowd old.standoff ms xs k R s found c.count-agents.result c.count-agents.ensures.value in
     let wanted = c.want-want.ensures.value ∙ ap (λ a. g.R.Rule.wants a m s.agent) n in
-    let passed = c.in-ok-outcome.ensures.value in
-    let reply = c.answer.ensures.value ∙ c.in-ok-outcome.ensures.reply ∙ ap (served m ms (seat_over m s)) wanted in
+    let passed = c.in_ok-outcome.ensures.value in
+    let reply = c.answer.ensures.value ∙ c.in_ok-outcome.ensures.reply ∙ ap (served m ms (seat_over m s)) wanted in
     let agent = c.step.ensures.after ∙ ap (λ a. g.R.Rule.becomes a m s.agent (reply_of c.answer.result)) n ∙ ap (g.R.Rule.becomes _ m s.agent) reply in
     record {
       value = step_check m old.heard old.crowd old.standoff ms xs k R s found want wanted (Ok tt) passed;
       after =
-          c.note-crowd.ensures.after
-          ∙ placed m old.heard old.crowd old.standoff ms xs k _ c.count-step.new.self _ _ _ put (ap (seat_over m) c.count-step.ensures.after ∙ ap (stepped (seat_over m s)) agent)
+          c.note_crowd.ensures.after
+          ∙ placed m old.heard old.crowd old.standoff ms xs k _ c.count_step.new.self _ _ _ put (ap (seat_over m) c.count_step.ensures.after ∙ ap (stepped (seat_over m s)) agent)
           (c.serve.ensures.after ∙ ap (store_after ms (seat_over m s)) wanted)
           ∙ sym (stepped_moved m old.heard old.crowd old.standoff ms xs k R s found want wanted (sym passed));
-      same = c.note-crowd.ensures.same ∙ c.serve.ensures.same;
+      same = c.note_crowd.ensures.same ∙ c.serve.ensures.same;
     }
 
-pub returns-in-default : goal.returns-in-default
-returns-in-default g c =
+pub returns-in_default : goal.returns-in_default
+returns-in_default g c =
     let old = c.args.self.now in
     let ms = g.S.CellStore.marks old.store in
     let xs = seated_in old.seats in
     record {
-      value = sym (at_none old.cells xs c.args.k _ (Ok tt) c.in-default.ensures.lent);
-      after = unmoved old.cells old.heard old.crowd old.standoff ms xs c.args.k _ _ c.seat.follows.holds-at-none c.in-default.ensures.lent;
+      value = sym (at_none old.cells xs c.args.k _ (Ok tt) c.in_default.ensures.lent);
+      after = unmoved old.cells old.heard old.crowd old.standoff ms xs c.args.k _ _ c.seat.follows.holds-at-none c.in_default.ensures.lent;
       same = refl;
     }

@@ -28,12 +28,12 @@ returns-in-Some g c =
       same = refl;
     }
 
-pub returns-in-default : goal.returns-in-default
-returns-in-default g c =
+pub returns-in_default : goal.returns-in_default
+returns-in_default g c =
     let old = c.args.self.now in
     record {
       after =
           ap (λ xs. seated_as old.cells old.heard old.crowd old.standoff (g.S.CellStore.marks old.store) (map (seat_over old.cells) xs)) c.seat.follows.holds-at-none
-          ∙ sym (at_none old.cells (seated_in old.seats) c.args.k _ _ c.in-default.ensures.lent);
+          ∙ sym (at_none old.cells (seated_in old.seats) c.args.k _ _ c.in_default.ensures.lent);
       same = refl;
     }

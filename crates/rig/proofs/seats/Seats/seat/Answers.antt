@@ -7,4 +7,4 @@ pub returns-then-k-eq0 : goal.returns-then-k-eq0
 returns-then-k-eq0 g c = ((refl, λ w e. absurd (true≢false (sym e)), refl), named_none _ _ (omega arith))
 
 pub returns : goal.returns
-returns g c = ((refl, λ w e. refl, refl), lent_named _ _ _ (omega arith) c.get-mut.ensures.item)
+returns g c = ((refl, λ w e. refl, refl), lent_named _ _ _ (omega arith) c.get_mut.ensures.item)
