@@ -1,9 +1,9 @@
 -- What a store owes where a call is accepted: one lemma for each way out. Assumes nothing.
-use Rattle.std.proofs.Common.{◌≡◌, ℕ, ◌-◌, ◌<◌, ◌≤◌, Bool, true, false, cond, not, List, length, is_ok, Ok, Err, Result, sym, refl, ap, ◌∙◌, subst}
-use Rattle.std.proofs.lemmas.Bool.{true≢false, cases_Bool, not-false}
+use Rattle.std.proofs.Common.{◌≡◌, ℕ, ◌≤◌, Bool, true, false, cond, not, List, length, is_ok, Ok, Result, sym, refl, ap, ◌∙◌, subst}
+use Rattle.std.proofs.lemmas.Bool.{true≢false, not-false}
 use Rattle.numbers.specs.Rows.{within}
 use Rattle.numbers.proofs.RowLaws.{within_true}
-use Rattle.refusal.specs.Checks.{◌then◌, Check, refuse_if}
+use Rattle.refusal.specs.Checks.{◌then◌, refuse_if}
 use Rattle.refusal.specs.declared.Refusal.{Refusal}
 use Rattle.refusal.proofs.CheckLaws.{ok_then}
 use Rattle.refusal.specs.declared.Refusal.TheVariants.{NoSuchCell, NoMark}

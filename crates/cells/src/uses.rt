@@ -12,8 +12,8 @@ pub fn read_after_write<S: CellStore>(
     name: usize,
     mark: Mark,
 ) -> Result<Mark, Refusal>
-    ensures value { result ≡ read_back (marks store.old) name mark }
-    ensures after { marks store.new ≡ after_write (marks store.old) name mark }
+    ensures value { result ≡ read_back (S.marks store.old) name mark }
+    ensures after { S.marks store.new ≡ after_write (S.marks store.old) name mark }
 {
     store.write(name, mark)?;
     store.read(name)

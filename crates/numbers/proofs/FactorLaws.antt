@@ -1,10 +1,9 @@
 -- Euclid's algorithm gives the greatest common divisor, and the smallest common factor divides. Assumes nothing.
-use Rattle.std.proofs.Common.{◌≡◌, ℕ, zero, suc, ◌+◌, ◌-◌, ◌%◌, ◌<◌, ◌≤◌, Bool, true, false, cond, not, eqb, ◌⊎◌, ◌↔◌, is_some, IfSome, Some, None, Option, sym, refl, ap, ◌∙◌, subst, inl, inr, ⊎_elim, le_refl, mod-lt, arith}
+use Rattle.std.proofs.Common.{◌≡◌, ℕ, zero, suc, ◌+◌, ◌-◌, ◌%◌, ◌<◌, ◌≤◌, true, false, eqb, ◌↔◌, is_some, IfSome, Some, None, Option, sym, refl, ◌∙◌, subst, ⊎_elim, le_refl, mod-lt, arith}
 use Prim.Native.Nat.{◌∣◌}
 use native.Mathlib.Nat.{dvd_refl, dvd-zero, dvd-mod_iff, le_of_dvd, pos_of_dvd_of_pos}
 use Rattle.std.proofs.lemmas.Bool.{cond-true, cond-false, cases_Bool, cases_eq, eqb-true, eqb-false, eq-eqb, ne_eqb, not-true, not-false, not_from_true, not_from_false, true≢false}
 use Rattle.numbers.specs.Factors.{euclid, gcd, GreatestCommonDivisor, common_factor, smallest_common_factor, CoprimeUpTo, SmallestCommonFactor}
-use Rattle.numbers.specs.First.{first_of, NonePasses, IsFirst}
 use Rattle.numbers.proofs.FirstLaws.{first_tells_none, first_tells_some, first_none, first_found}
 
 abbrev Gcd : ℕ → ℕ → ℕ → Type 0

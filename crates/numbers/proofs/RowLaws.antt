@@ -1,7 +1,6 @@
 -- Laws of rows without repeats. Assumes nothing.
-use Rattle.std.proofs.Common.{◌≡◌, ℕ, zero, suc, ◌+◌, ◌-◌, ◌<◌, ◌≤◌, Bool, true, false, not, ◌&&◌, ◌||◌, eqb, leb, ◌⊎◌, ◌↔◌, is_some, IfSome, Some, None, Option, sym, refl, ap, ◌∙◌, subst, inl, inr, ⊎_elim, arith}
-use Rattle.std.proofs.lemmas.Bool.{true≢false, cases_Bool, cases_eq, eqb-true, eqb-false, eq-eqb, ne_eqb, not-true, not-false, not_from_true, not_from_false, or_cases, or_parts, or_from, or_left, or_right, and_parts, and_from, and_cases, leb-true, leb-false, le-leb, lt-leb}
-use Rattle.numbers.specs.First.{first_of, NonePasses, IsFirst}
+use Rattle.std.proofs.Common.{◌≡◌, ℕ, ◌+◌, ◌-◌, ◌<◌, ◌≤◌, Bool, true, false, not, eqb, leb, ◌↔◌, is_some, IfSome, Some, None, Option, sym, refl, ap, ◌∙◌, subst, ⊎_elim, arith}
+use Rattle.std.proofs.lemmas.Bool.{true≢false, cases_Bool, eqb-true, eqb-false, ne_eqb, not-false, not_from_true, not_from_false, or_cases, or_parts, or_from, or_left, or_right, and_parts, and_from, leb-true, le-leb}
 use Rattle.numbers.specs.Rows.{within, repeats, misfit, first_misfit, Distinct, EveryNumber, FirstMisfit}
 use Rattle.numbers.proofs.Pigeonhole.{apart_both, every_number}
 use Rattle.numbers.proofs.FirstLaws.{first_cases, first_none, first_found, first_tells_none, first_tells_some}

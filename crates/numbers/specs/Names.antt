@@ -1,5 +1,5 @@
 -- Lists whose elements have names from 1 on. Assumes nothing.
-use Rattle.std.specs.Prelude.{ℕ, zero, suc, List, map, Some, None, Option}
+use Rattle.std.specs.Prelude.{ℕ, zero, suc, List, map, None, Option}
 use Rattle.std.specs.List.{slice_get, range_with_len}
 
 -- the element with name k, if there is one

@@ -1,5 +1,5 @@
 -- Rows of numbers, at places from 1 on. Assumes nothing.
-use Rattle.std.specs.Prelude.{◌≡◌, ℕ, ◌-◌, ◌<◌, ◌≤◌, Bool, not, ◌&&◌, ◌||◌, ◌⊎◌, is_some, Option, ◌≢◌, nat_eq, nat_le}
+use Rattle.std.specs.Prelude.{◌≡◌, ℕ, ◌-◌, ◌<◌, ◌≤◌, Bool, not, ◌&&◌, ◌||◌, is_some, Option, ◌≢◌, nat_eq, nat_le}
 use Rattle.numbers.specs.First.{first_of}
 
 -- from low to high, both included

@@ -1,9 +1,9 @@
 -- The answer to a file, from that of its header. Assumes nothing.
-use Rattle.std.proofs.Common.{◌≡◌, ℕ, List, Ok, Err, Result, sym, refl, ap, ◌∙◌, subst, arith}
+use Rattle.std.proofs.Common.{◌≡◌, ℕ, List, Ok, Err, sym, refl, ap, ◌∙◌}
 use Rattle.refusal.specs.declared.Refusal.{Refusal}
 use Rattle.refusal.proofs.CheckLaws.{ok_then, err_then}
 use Rattle.plan.specs.declared.header.Header.{Header}
-use Rattle.plan.specs.Plans.{Sayings, plan_at}
+use Rattle.plan.specs.Plans.{plan_at}
 use Rattle.refusal.specs.Checks.{◌then◌, Check}
 use Rattle.plan.specs.Checks.{length_check, header_of, header_read, all_checks, decoded}
 

@@ -1,5 +1,5 @@
 -- An accepted plan answers with the file's own bytes, and they make a trial. Assumes nothing.
-use Rattle.std.proofs.Common.{◌≡◌, ℕ, ◌+◌, ◌-◌, ◌*◌, ◌<◌, ◌≤◌, Bool, true, false, eqb, ◌↔◌, List, length, is_ok, IfOk, Some, None, Ok, Err, Option, Result, sym, refl, ap, ◌∙◌, subst, ⊎_elim, arith, MatchOption}
+use Rattle.std.proofs.Common.{◌≡◌, ℕ, ◌≤◌, true, eqb, ◌↔◌, List, is_ok, IfOk, Some, Ok, Err, Result, sym, refl, ap, ◌∙◌, subst, ⊎_elim, arith, MatchOption}
 use Rattle.std.proofs.lemmas.Bool.{true≢false, cases_Bool, eqb-true, eqb-false, cond-true, cond-false}
 use Rattle.numbers.specs.Names.{named, listed}
 use Rattle.numbers.specs.Rows.{Distinct}
@@ -8,7 +8,7 @@ use Rattle.numbers.proofs.Pigeonhole.{every_number, apart_both}
 use Rattle.refusal.specs.declared.Refusal.{Refusal}
 use Rattle.plan.specs.Accepted.{Between, Acceptable, Fault, event_kind, event_agent, Faithful}
 use Rattle.plan.specs.Checks.{header_of, decoded, answered}
-use Rattle.plan.specs.Plans.{identity_at, entry_at, kind_at, agent_at, event_of, event_at, Sayings, plan_at, model, entry_in, entry_named}
+use Rattle.plan.specs.Plans.{identity_at, entry_at, kind_at, agent_at, event_of, event_at, plan_at, model, entry_in, entry_named}
 use Rattle.plan.specs.declared.plan.Plan.{Plan}
 use Rattle.plan.proofs.Judged.{told, accepts, refuses}
 

@@ -1,10 +1,8 @@
 -- The checks say just what `Acceptable` and `Fault` say. Assumes nothing.
-use Rattle.std.proofs.Common.{◌≡◌, ℕ, ◌+◌, ◌-◌, ◌*◌, ◌<◌, ◌≤◌, min, max, Bool, true, false, not, ◌&&◌, ◌||◌, eqb, ltb, ◌⊎◌, ◌↔◌, List, length, is_some, is_ok, Some, None, Ok, Err, Option, Result, sym, refl, ap, ◌∙◌, subst, inl, inr, ⊎_elim, arith, MatchResult}
-use Rattle.std.proofs.lemmas.Result.{MatchResult-weaker}
-use Rattle.std.proofs.lemmas.Bool.{true≢false, not-true, not-false, not_from_true, not_from_false, eqb-true, eqb-false, eq-eqb, ne_eqb, ltb-true, ltb-false, lt-ltb, le-ltb, or_cases, or_parts, or_from, or_left, or_right, and_parts, and_from, cases_lt, cases_Bool}
-use Rattle.numbers.specs.Factors.{CoprimeUpTo, SmallestCommonFactor, smallest_common_factor}
-use Rattle.numbers.specs.First.{first_of, IsFirst}
-use Rattle.numbers.specs.Rows.{within, first_misfit, Distinct, FirstMisfit}
+use Rattle.std.proofs.Common.{◌≡◌, ℕ, ◌+◌, min, max, Bool, true, false, not, ◌||◌, eqb, ltb, List, length, is_some, Some, None, Ok, Err, Option, Result, sym, refl, ap, ◌∙◌, subst, inl, inr, ⊎_elim, arith, MatchResult}
+use Rattle.std.proofs.lemmas.Bool.{true≢false, not-true, not-false, not_from_true, not_from_false, eqb-true, eqb-false, eq-eqb, ne_eqb, ltb-true, ltb-false, le-ltb, or_cases, or_parts, or_from, and_parts, and_from, cases_Bool}
+use Rattle.numbers.specs.Factors.{smallest_common_factor}
+use Rattle.numbers.specs.Rows.{within, Distinct}
 use Rattle.numbers.proofs.FactorLaws.{smallest_none, smallest_some, smallest_tells_none, smallest_tells_some}
 use Rattle.numbers.proofs.FirstLaws.{first_cases, first_tells_none, first_tells_some, none_up_to, first_up_to}
 use Rattle.numbers.proofs.RowLaws.{within_true, within_false, within_from, first_misfit_tells_none, first_misfit_tells_some, first_misfit_none, distinct_fits, misfit_from_first}

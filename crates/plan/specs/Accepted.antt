@@ -2,7 +2,7 @@
 use Rattle.std.specs.Prelude.{◌≡◌, ℕ, ◌+◌, ◌-◌, ◌*◌, ◌<◌, ◌≤◌, ◌⊎◌, List, length, Some, MatchOption, ◌≢◌}
 use Rattle.numbers.specs.Factors.{CoprimeUpTo, SmallestCommonFactor}
 use Rattle.numbers.specs.Names.{named}
-use Rattle.numbers.specs.Rows.{Distinct, FirstMisfit, EveryNumber}
+use Rattle.numbers.specs.Rows.{Distinct, FirstMisfit}
 use Rattle.refusal.specs.Refusals.{part_number}
 use Rattle.refusal.specs.declared.Part.{Part}
 use Rattle.refusal.specs.declared.Refusal.{Refusal}

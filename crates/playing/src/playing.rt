@@ -17,8 +17,8 @@ use rules::Rule;
 
 // Plays an event, if there is one.
 fn play_event<S: CellStore, R: Rule>(rig: &mut Rig<S, R>, event: Option<Event>)
-    ensures after { world marks rig.new ≡ after_some (meaning_of R.Rule) (world marks rig.old) event }
-    ensures same { lender rig.new.store ≡ lender rig.old.store }
+    ensures after { world S.marks rig.new ≡ after_some (meaning_of R.Rule) (world S.marks rig.old) event }
+    ensures same { S.lender rig.new.store ≡ S.lender rig.old.store }
 {
     if let Some(event) = event {
         let _ = rig.call(event);
@@ -27,8 +27,8 @@ fn play_event<S: CellStore, R: Rule>(rig: &mut Rig<S, R>, event: Option<Event>)
 
 // Plays all events of a plan.
 pub fn play_plan<S: CellStore, R: Rule>(rig: &mut Rig<S, R>, plan: &Plan<'_>)
-    ensures after { world marks rig.new ≡ run (meaning_of R.Rule) (world marks rig.old) (model plan.now).events }
-    ensures same { lender rig.new.store ≡ lender rig.old.store }
+    ensures after { world S.marks rig.new ≡ run (meaning_of R.Rule) (world S.marks rig.old) (model plan.now).events }
+    ensures same { S.lender rig.new.store ≡ S.lender rig.old.store }
 {
     for before in 0..plan.event_count() {
         play_event(rig, plan.event(before + 1));
@@ -37,8 +37,8 @@ pub fn play_plan<S: CellStore, R: Rule>(rig: &mut Rig<S, R>, plan: &Plan<'_>)
 
 // Plays the events of a plan file; a file that is no plan for this rule has none.
 fn play_file<S: CellStore, R: Rule>(rig: &mut Rig<S, R>, file: &[u8])
-    ensures after { world marks rig.new ≡ run (meaning_of R.Rule) (world marks rig.old) (events_of (meaning_of R.Rule) file.now) }
-    ensures same { lender rig.new.store ≡ lender rig.old.store }
+    ensures after { world S.marks rig.new ≡ run (meaning_of R.Rule) (world S.marks rig.old) (events_of (meaning_of R.Rule) file.now) }
+    ensures same { S.lender rig.new.store ≡ S.lender rig.old.store }
 {
     if let Ok(plan) = Plan::decode(file, R::own_number()) {
         play_plan(rig, &plan);
@@ -51,9 +51,9 @@ pub fn run_file<S: CellStore, R: Rule>(
     file: &[u8],
     others: &[u8],
 ) -> Result<(), Refusal>
-    ensures value { result ≡ load_answer (meaning_of R.Rule) (world marks rig.old) file.now }
-    ensures after { world marks rig.new ≡ after_run (meaning_of R.Rule) (world marks rig.old) file.now others.now }
-    ensures same { lender rig.new.store ≡ lender rig.old.store }
+    ensures value { result ≡ load_answer (meaning_of R.Rule) (world S.marks rig.old) file.now }
+    ensures after { world S.marks rig.new ≡ after_run (meaning_of R.Rule) (world S.marks rig.old) file.now others.now }
+    ensures same { S.lender rig.new.store ≡ S.lender rig.old.store }
 {
     rig.load(file)?;
     play_file(rig, others);
@@ -62,8 +62,8 @@ pub fn run_file<S: CellStore, R: Rule>(
 
 // Plays rounds.
 pub fn play_rounds<S: CellStore, R: Rule>(rig: &mut Rig<S, R>, given: &[Round])
-    ensures after { world marks rig.new ≡ rounds (meaning_of R.Rule) (world marks rig.old) given.now }
-    ensures same { lender rig.new.store ≡ lender rig.old.store }
+    ensures after { world S.marks rig.new ≡ rounds (meaning_of R.Rule) (world S.marks rig.old) given.now }
+    ensures same { S.lender rig.new.store ≡ S.lender rig.old.store }
 {
     for before in 0..given.len() {
         let _ = rig.round(given[before]);
@@ -77,9 +77,9 @@ pub fn run_standoff<S: CellStore, R: Rule>(
     cells: usize,
     given: &[Round],
 ) -> Result<(), Refusal>
-    ensures value { result ≡ standoff_answer (meaning_of R.Rule) (world marks rig.old) agents cells }
-    ensures after { world marks rig.new ≡ after_rounds (meaning_of R.Rule) (world marks rig.old) agents cells given.now }
-    ensures same { lender rig.new.store ≡ lender rig.old.store }
+    ensures value { result ≡ standoff_answer (meaning_of R.Rule) (world S.marks rig.old) agents cells }
+    ensures after { world S.marks rig.new ≡ after_rounds (meaning_of R.Rule) (world S.marks rig.old) agents cells given.now }
+    ensures same { S.lender rig.new.store ≡ S.lender rig.old.store }
 {
     rig.load_standoff(agents, cells)?;
     play_rounds(rig, given);

@@ -48,12 +48,12 @@ pub fn rehearse<S: CellStore, T: CellStore, U: CellStore, R: Rule>(
     third: &mut Rig<U, R>,
     script: &Script<'_>,
 ) -> Rehearsal
-    ensures plan { result.plan ≡ load_answer (meaning_of R.Rule) (world S.CellStore.marks first.old) script.now.plan.now }
-    ensures twin { result.twin ≡ load_answer (meaning_of R.Rule) (world T.CellStore.marks second.old) script.now.twin.now }
-    ensures standoff { result.standoff ≡ standoff_answer (meaning_of R.Rule) (world U.CellStore.marks third.old) script.now.agents script.now.cells }
-    ensures after_plan { world S.CellStore.marks first.new ≡ after_run (meaning_of R.Rule) (world S.CellStore.marks first.old) script.now.plan.now script.now.plan.now }
-    ensures after_twin { world T.CellStore.marks second.new ≡ after_run (meaning_of R.Rule) (world T.CellStore.marks second.old) script.now.twin.now script.now.plan.now }
-    ensures after_standoff { world U.CellStore.marks third.new ≡ after_rounds (meaning_of R.Rule) (world U.CellStore.marks third.old) script.now.agents script.now.cells script.now.rounds.now }
+    ensures plan { result.plan ≡ load_answer (meaning_of R.Rule) (world S.marks first.old) script.now.plan.now }
+    ensures twin { result.twin ≡ load_answer (meaning_of R.Rule) (world T.marks second.old) script.now.twin.now }
+    ensures standoff { result.standoff ≡ standoff_answer (meaning_of R.Rule) (world U.marks third.old) script.now.agents script.now.cells }
+    ensures after_plan { world S.marks first.new ≡ after_run (meaning_of R.Rule) (world S.marks first.old) script.now.plan.now script.now.plan.now }
+    ensures after_twin { world T.marks second.new ≡ after_run (meaning_of R.Rule) (world T.marks second.old) script.now.twin.now script.now.plan.now }
+    ensures after_standoff { world U.marks third.new ≡ after_rounds (meaning_of R.Rule) (world U.marks third.old) script.now.agents script.now.cells script.now.rounds.now }
     ensures no_two_holders_by_read_write { NoTwoHolders read_and_write }
     ensures no_two_holders_by_majority { NoTwoHolders by_majority }
     ensures no_two_holders_by_ladder { NoTwoHolders by_ladder }

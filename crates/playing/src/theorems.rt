@@ -20,9 +20,9 @@ use rules::Rule;
 
 // Loads a plan file and plays its events. At no moment of such a run do two agents hold.
 pub fn play<S: CellStore, R: ExclusiveRule>(rig: &mut Rig<S, R>, file: &[u8]) -> Result<(), Refusal>
-    ensures value { result ≡ load_answer (meaning_of R.Rule) (world marks rig.old) file.now }
-    ensures after { world marks rig.new ≡ after_run (meaning_of R.Rule) (world marks rig.old) file.now file.now }
-    ensures same { lender rig.new.store ≡ lender rig.old.store }
+    ensures value { result ≡ load_answer (meaning_of R.Rule) (world S.marks rig.old) file.now }
+    ensures after { world S.marks rig.new ≡ after_run (meaning_of R.Rule) (world S.marks rig.old) file.now file.now }
+    ensures same { S.lender rig.new.store ≡ S.lender rig.old.store }
     ensures no_two_holders { NoTwoHolders (meaning_of R.Rule) }
 {
     let _ = no_two_holders::<R>();
@@ -37,12 +37,12 @@ pub fn play_twins<S: CellStore, T: CellStore, R: Rule>(
     file: &[u8],
     twin: &[u8],
 ) -> (Result<(), Refusal>, Result<(), Refusal>)
-    ensures* value { λ (one, two). ⌜ one ≡ load_answer (meaning_of R.Rule) (world S.CellStore.marks first.old) file.now ⌝ }
-    ensures* value_second { λ (one, two). ⌜ two ≡ load_answer (meaning_of R.Rule) (world T.CellStore.marks second.old) twin.now ⌝ }
-    ensures after { world S.CellStore.marks first.new ≡ after_run (meaning_of R.Rule) (world S.CellStore.marks first.old) file.now file.now }
-    ensures after_second { world T.CellStore.marks second.new ≡ after_run (meaning_of R.Rule) (world T.CellStore.marks second.old) twin.now file.now }
-    ensures same { S.CellStore.lender first.new.store ≡ S.CellStore.lender first.old.store }
-    ensures same_second { T.CellStore.lender second.new.store ≡ T.CellStore.lender second.old.store }
+    ensures* value { λ (one, two). ⌜ one ≡ load_answer (meaning_of R.Rule) (world S.marks first.old) file.now ⌝ }
+    ensures* value_second { λ (one, two). ⌜ two ≡ load_answer (meaning_of R.Rule) (world T.marks second.old) twin.now ⌝ }
+    ensures after { world S.marks first.new ≡ after_run (meaning_of R.Rule) (world S.marks first.old) file.now file.now }
+    ensures after_second { world T.marks second.new ≡ after_run (meaning_of R.Rule) (world T.marks second.old) twin.now file.now }
+    ensures same { S.lender first.new.store ≡ S.lender first.old.store }
+    ensures same_second { T.lender second.new.store ≡ T.lender second.old.store }
     ensures invisible { RenumberingInvisible (meaning_of R.Rule) }
 {
     let _ = renumbering_unseen::<R>();
@@ -56,9 +56,9 @@ pub fn play_standoff<S: CellStore, R: ExclusiveRule>(
     cells: usize,
     given: &[Round],
 ) -> Result<(), Refusal>
-    ensures value { result ≡ standoff_answer (meaning_of R.Rule) (world marks rig.old) agents cells }
-    ensures after { world marks rig.new ≡ after_rounds (meaning_of R.Rule) (world marks rig.old) agents cells given.now }
-    ensures same { lender rig.new.store ≡ lender rig.old.store }
+    ensures value { result ≡ standoff_answer (meaning_of R.Rule) (world S.marks rig.old) agents cells }
+    ensures after { world S.marks rig.new ≡ after_rounds (meaning_of R.Rule) (world S.marks rig.old) agents cells given.now }
+    ensures same { S.lender rig.new.store ≡ S.lender rig.old.store }
     ensures same_section { SameSection (meaning_of R.Rule) }
     ensures nobody_holds { NobodyHolds (meaning_of R.Rule) }
 {

@@ -1,5 +1,5 @@
 -- Records of four bytes, and the marks that a file of them means. Assumes nothing.
-use Rattle.std.specs.Prelude.{◌≡◌, ℕ, ◌+◌, ◌-◌, ◌*◌, ◌/◌, ◌%◌, ◌≤◌, min, Bool, true, false, cond, ◌&&◌, ◌⊎◌, List, [], ◌∷◌, ◌++◌, length, drop, set, replicate, is_ok, ◌==◌, slice_index, slice_set}
+use Rattle.std.specs.Prelude.{◌≡◌, ℕ, ◌+◌, ◌-◌, ◌*◌, ◌/◌, ◌%◌, ◌≤◌, min, cond, ◌&&◌, ◌⊎◌, List, [], ◌∷◌, ◌++◌, length, drop, replicate, is_ok, ◌==◌, slice_index, slice_set}
 use Rattle.numbers.specs.Names.{listed}
 use Rattle.numbers.specs.Rows.{within}
 use Rattle.cells.specs.Marks.{write_answer, swap_answer, says_yes}

@@ -20,9 +20,9 @@ impl Numbering {
     // The numbers that a row has at the places from 1 to `count`.
     pub fn from_row<R: Row>(row: &R, count: u16) -> Numbering
         requires small { count ≤ 64 }
-        requires distinct { Distinct (numbers row.now) count count }
+        requires distinct { Distinct (R.numbers row.now) count count }
         ensures count { result.count ≡ count }
-        ensures names { (y : ℕ) → 1 ≤ y → y ≤ count → entry result.names y ≡ numbers row.now y }
+        ensures names { (y : ℕ) → 1 ≤ y → y ≤ count → entry result.names y ≡ R.numbers row.now y }
     {
         let mut names = [0; 64];
         for i in 0..count {

@@ -42,7 +42,7 @@ fn write_agents<S: CellStore, R: Rule>(rig: &Rig<S, R>, sheet: &mut Sheet)
 fn write_cell<S: CellStore, R: Rule>(rig: &Rig<S, R>, name: usize, sheet: &mut Sheet)
     requires name { name < 100 }
     requires room { sheet.old.used + 20 ≤ 2336 }
-    ensures after { written sheet.new ≡ written sheet.old ++ cell_told name (cell_answer (world marks rig.now) name) }
+    ensures after { written sheet.new ≡ written sheet.old ++ cell_told name (cell_answer (world S.marks rig.now) name) }
     ensures used { sheet.new.used ≤ sheet.old.used + 20 }
 {
     if let Ok(mark) = rig.cell(name) {
@@ -53,7 +53,7 @@ fn write_cell<S: CellStore, R: Rule>(rig: &Rig<S, R>, name: usize, sheet: &mut S
 // What the rig answers of all its cells.
 fn write_cells<S: CellStore, R: Rule>(rig: &Rig<S, R>, sheet: &mut Sheet)
     requires { sheet.old.used + 1280 ≤ 2336 }
-    ensures after { written sheet.new ≡ written sheet.old ++ cell_lines (world marks rig.now) (rig_of rig.now).cells }
+    ensures after { written sheet.new ≡ written sheet.old ++ cell_lines (world S.marks rig.now) (rig_of rig.now).cells }
     ensures used { sheet.new.used ≤ sheet.old.used + 1280 }
 {
     for before in 0..rig.cells() {
@@ -63,7 +63,7 @@ fn write_cells<S: CellStore, R: Rule>(rig: &Rig<S, R>, sheet: &mut Sheet)
 
 // The whole report on a sheet.
 fn sheet_of<S: CellStore, R: Rule>(rig: &Rig<S, R>) -> Sheet
-    ensures value { written result ≡ report_text number (world marks rig.now) }
+    ensures value { written result ≡ report_text number (world S.marks rig.now) }
 {
     let mut sheet = Sheet::new();
     sheet.sizes_line(rig.agents(), rig.cells(), R::own_number());
@@ -76,11 +76,11 @@ fn sheet_of<S: CellStore, R: Rule>(rig: &Rig<S, R>) -> Sheet
 // Writes the report into the buffer and answers how many bytes it has; a buffer of MAX_REPORT bytes is long enough for
 // every rig.
 pub fn report<S: CellStore, R: Rule>(rig: &Rig<S, R>, buffer: &mut [u8]) -> Result<usize, Refusal>
-    ensures value { result ≡ copy_answer (report_text number (world marks rig.now)) buffer.old }
-    ensures after { buffer.new ≡ copy_after (report_text number (world marks rig.now)) buffer.old }
-    ensures enough { 2336 ≤ length buffer.old → result ≡ Ok (length (report_text number (world marks rig.now))) }
-    ensures whole { Whole (world marks rig.now) }
-    ensures fits { length (report_text number (world marks rig.now)) ≤ 2336 }
+    ensures value { result ≡ copy_answer (report_text number (world S.marks rig.now)) buffer.old }
+    ensures after { buffer.new ≡ copy_after (report_text number (world S.marks rig.now)) buffer.old }
+    ensures enough { 2336 ≤ length buffer.old → result ≡ Ok (length (report_text number (world S.marks rig.now))) }
+    ensures whole { Whole (world S.marks rig.now) }
+    ensures fits { length (report_text number (world S.marks rig.now)) ≤ 2336 }
 {
     sheet_of(rig).copy_to(buffer)
 }

@@ -36,9 +36,9 @@ impl<S: CellStore, R: Rule> Rig<S, R> {
 
     // A request, a step or a leave of one agent. A call that is refused for the agent's section is heard and counted.
     pub fn call(&mut self, event: Event) -> Result<(), Refusal>
-        ensures value { result ≡ answer (meaning_of R.Rule) (world marks self.old) event }
-        ensures after { world marks self.new ≡ after (meaning_of R.Rule) (world marks self.old) event }
-        ensures same { lender self.new.store ≡ lender self.old.store }
+        ensures value { result ≡ answer (meaning_of R.Rule) (world S.marks self.old) event }
+        ensures after { world S.marks self.new ≡ after (meaning_of R.Rule) (world S.marks self.old) event }
+        ensures same { S.lender self.new.store ≡ S.lender self.old.store }
     {
         let agent = agent_of(event);
         self.check_hearing(agent)?;
@@ -53,27 +53,27 @@ impl<S: CellStore, R: Rule> Rig<S, R> {
 
     // Agent k begins to ask.
     pub fn request(&mut self, k: usize) -> Result<(), Refusal>
-        ensures value { result ≡ answer (meaning_of R.Rule) (world marks self.old) (Request k) }
-        ensures after { world marks self.new ≡ after (meaning_of R.Rule) (world marks self.old) (Request k) }
-        ensures same { lender self.new.store ≡ lender self.old.store }
+        ensures value { result ≡ answer (meaning_of R.Rule) (world S.marks self.old) (Request k) }
+        ensures after { world S.marks self.new ≡ after (meaning_of R.Rule) (world S.marks self.old) (Request k) }
+        ensures same { S.lender self.new.store ≡ S.lender self.old.store }
     {
         self.call(Event::Request(k))
     }
 
     // Agent k takes one step.
     pub fn step(&mut self, k: usize) -> Result<(), Refusal>
-        ensures value { result ≡ answer (meaning_of R.Rule) (world marks self.old) (Step k) }
-        ensures after { world marks self.new ≡ after (meaning_of R.Rule) (world marks self.old) (Step k) }
-        ensures same { lender self.new.store ≡ lender self.old.store }
+        ensures value { result ≡ answer (meaning_of R.Rule) (world S.marks self.old) (Step k) }
+        ensures after { world S.marks self.new ≡ after (meaning_of R.Rule) (world S.marks self.old) (Step k) }
+        ensures same { S.lender self.new.store ≡ S.lender self.old.store }
     {
         self.call(Event::Step(k))
     }
 
     // Agent k, which holds, begins to leave.
     pub fn leave(&mut self, k: usize) -> Result<(), Refusal>
-        ensures value { result ≡ answer (meaning_of R.Rule) (world marks self.old) (Leave k) }
-        ensures after { world marks self.new ≡ after (meaning_of R.Rule) (world marks self.old) (Leave k) }
-        ensures same { lender self.new.store ≡ lender self.old.store }
+        ensures value { result ≡ answer (meaning_of R.Rule) (world S.marks self.old) (Leave k) }
+        ensures after { world S.marks self.new ≡ after (meaning_of R.Rule) (world S.marks self.old) (Leave k) }
+        ensures same { S.lender self.new.store ≡ S.lender self.old.store }
     {
         self.call(Event::Leave(k))
     }

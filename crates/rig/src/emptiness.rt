@@ -7,7 +7,7 @@ use refusal::Refusal;
 
 // Refuses a store that has not that many cells, or else the first cell that is not empty.
 pub fn check_empty<S: CellStore>(store: &S, cells: usize) -> Result<(), Refusal>
-    ensures value { result ≡ empty_check cells (marks store.now) }
+    ensures value { result ≡ empty_check cells (S.marks store.now) }
 {
     if store.count() != cells {
         return Err(Refusal::CellCount);

@@ -62,8 +62,8 @@ impl<S: CellStore, R: Rule> Rig<S, R> {
     pub(crate) fn begin(&mut self, cells: usize, standoff: Option<usize>)
         requires few { cells ≤ 64 }
         requires fresh { busiest (seated_in self.old.seats) ≡ 0 }
-        ensures after { world marks self.new ≡ new_world (meaning_of R.Rule) cells (map (seat_over cells) (seated_in self.old.seats)) standoff (marks self.old.store) }
-        ensures same { lender self.new.store ≡ lender self.old.store }
+        ensures after { world S.marks self.new ≡ new_world (meaning_of R.Rule) cells (map (seat_over cells) (seated_in self.old.seats)) standoff (S.marks self.old.store) }
+        ensures same { S.lender self.new.store ≡ S.lender self.old.store }
     {
         self.cells = cells;
         self.heard = 0;
@@ -73,9 +73,9 @@ impl<S: CellStore, R: Rule> Rig<S, R> {
 
     // Loads a blank rig from a plan file, over a store whose cells are all empty.
     pub fn load(&mut self, file: &[u8]) -> Result<(), Refusal>
-        ensures value { result ≡ load_answer (meaning_of R.Rule) (world marks self.old) file.now }
-        ensures after { world marks self.new ≡ after_load (meaning_of R.Rule) (world marks self.old) file.now }
-        ensures same { lender self.new.store ≡ lender self.old.store }
+        ensures value { result ≡ load_answer (meaning_of R.Rule) (world S.marks self.old) file.now }
+        ensures after { world S.marks self.new ≡ after_load (meaning_of R.Rule) (world S.marks self.old) file.now }
+        ensures same { S.lender self.new.store ≡ S.lender self.old.store }
     {
         if self.cells != 0 {
             return Err(Refusal::NotBlank);

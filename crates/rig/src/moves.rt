@@ -33,8 +33,8 @@ impl<S: CellStore, R: Rule> Rig<S, R> {
     // Counts a call that was refused for the section of agent k.
     pub(crate) fn turn_away(&mut self, k: usize)
         requires { self.old.heard < 1000000 }
-        ensures after { world marks self.new ≡ away (world marks self.old) k }
-        ensures same { lender self.new.store ≡ lender self.old.store }
+        ensures after { world S.marks self.new ≡ away (world S.marks self.old) k }
+        ensures same { S.lender self.new.store ≡ S.lender self.old.store }
     {
         if let Some(seat) = self.seats.seat(k) {
             seat.refused += 1;
@@ -44,8 +44,8 @@ impl<S: CellStore, R: Rule> Rig<S, R> {
 
     // Notes how many agents ask now, if never so many did.
     fn note_crowd(&mut self)
-        ensures after { world marks self.new ≡ crowded (world marks self.old) }
-        ensures same { lender self.new.store ≡ lender self.old.store }
+        ensures after { world S.marks self.new ≡ crowded (world S.marks self.old) }
+        ensures same { S.lender self.new.store ≡ S.lender self.old.store }
     {
         self.crowd = self.asking().max(self.crowd);
     }
@@ -53,8 +53,8 @@ impl<S: CellStore, R: Rule> Rig<S, R> {
     // Agent k asks.
     fn begin_asking(&mut self, k: usize)
         requires { self.old.heard < 1000000 }
-        ensures after { world marks self.new ≡ moved (meaning_of R.Rule) (world marks self.old) (Request k) }
-        ensures same { lender self.new.store ≡ lender self.old.store }
+        ensures after { world S.marks self.new ≡ moved (meaning_of R.Rule) (world S.marks self.old) (Request k) }
+        ensures same { S.lender self.new.store ≡ S.lender self.old.store }
     {
         let agents = self.seats.count();
         if let Some(seat) = self.seats.seat(k) {
@@ -67,8 +67,8 @@ impl<S: CellStore, R: Rule> Rig<S, R> {
     // Agent k leaves.
     fn begin_leaving(&mut self, k: usize)
         requires { self.old.heard < 1000000 }
-        ensures after { world marks self.new ≡ moved (meaning_of R.Rule) (world marks self.old) (Leave k) }
-        ensures same { lender self.new.store ≡ lender self.old.store }
+        ensures after { world S.marks self.new ≡ moved (meaning_of R.Rule) (world S.marks self.old) (Leave k) }
+        ensures same { S.lender self.new.store ≡ S.lender self.old.store }
     {
         let agents = self.seats.count();
         if let Some(seat) = self.seats.seat(k) {
@@ -81,9 +81,9 @@ impl<S: CellStore, R: Rule> Rig<S, R> {
     // Agent k takes a step, unless the store refuses what it wants.
     fn take_step(&mut self, k: usize) -> Result<(), Refusal>
         requires { self.old.heard < 1000000 }
-        ensures value { result ≡ granted (meaning_of R.Rule) (world marks self.old) (Step k) }
-        ensures after { world marks self.new ≡ moved (meaning_of R.Rule) (world marks self.old) (Step k) }
-        ensures same { lender self.new.store ≡ lender self.old.store }
+        ensures value { result ≡ granted (meaning_of R.Rule) (world S.marks self.old) (Step k) }
+        ensures after { world S.marks self.new ≡ moved (meaning_of R.Rule) (world S.marks self.old) (Step k) }
+        ensures same { S.lender self.new.store ≡ S.lender self.old.store }
     {
         let agents = self.seats.count();
         let cells = self.cells;
@@ -101,9 +101,9 @@ impl<S: CellStore, R: Rule> Rig<S, R> {
     // Carries out a call that is heard and that the agent's section allows.
     pub(crate) fn carry_out(&mut self, event: Event) -> Result<(), Refusal>
         requires { self.old.heard < 1000000 }
-        ensures value { result ≡ granted (meaning_of R.Rule) (world marks self.old) event }
-        ensures after { world marks self.new ≡ moved (meaning_of R.Rule) (world marks self.old) event }
-        ensures same { lender self.new.store ≡ lender self.old.store }
+        ensures value { result ≡ granted (meaning_of R.Rule) (world S.marks self.old) event }
+        ensures after { world S.marks self.new ≡ moved (meaning_of R.Rule) (world S.marks self.old) event }
+        ensures same { S.lender self.new.store ≡ S.lender self.old.store }
     {
         match event {
             Event::Request(agent) => {

@@ -74,7 +74,7 @@ impl<S: CellStore, R: Rule> Rig<S, R> {
 
     // The mark in a cell of the store.
     pub fn cell(&self, name: usize) -> Result<Mark, Refusal>
-        ensures value { result ≡ cell_answer (world marks self.now) name }
+        ensures value { result ≡ cell_answer (world S.marks self.now) name }
     {
         self.store.read(name)
     }

@@ -70,8 +70,8 @@ impl<S: CellStore, R: Rule> Rig<S, R> {
     // Carries out a round, agent by agent.
     fn carry_out_all(&mut self, round: Round, together: usize)
         requires { self.old.heard + together ≤ 1000000 }
-        ensures after { world marks self.new ≡ in_turn (λ v k. moved (meaning_of R.Rule) v (given round k)) (world marks self.old) together }
-        ensures same { lender self.new.store ≡ lender self.old.store }
+        ensures after { world S.marks self.new ≡ in_turn (λ v k. moved (meaning_of R.Rule) v (given round k)) (world S.marks self.old) together }
+        ensures same { S.lender self.new.store ≡ S.lender self.old.store }
     {
         for before in 0..together {
             let _ = self.carry_out(given(round, before + 1));
@@ -81,8 +81,8 @@ impl<S: CellStore, R: Rule> Rig<S, R> {
     // Counts a refused round, agent by agent.
     fn turn_all_away(&mut self, together: usize)
         requires { self.old.heard + together ≤ 1000000 }
-        ensures after { world marks self.new ≡ in_turn away (world marks self.old) together }
-        ensures same { lender self.new.store ≡ lender self.old.store }
+        ensures after { world S.marks self.new ≡ in_turn away (world S.marks self.old) together }
+        ensures same { S.lender self.new.store ≡ S.lender self.old.store }
     {
         for before in 0..together {
             self.turn_away(before + 1);
@@ -91,9 +91,9 @@ impl<S: CellStore, R: Rule> Rig<S, R> {
 
     // A request, a step or a leave of each of the agents that move together, or of none of them.
     pub fn round(&mut self, round: Round) -> Result<(), Refusal>
-        ensures value { result ≡ round_answer (world marks self.old) round }
-        ensures after { world marks self.new ≡ after_round (meaning_of R.Rule) (world marks self.old) round }
-        ensures same { lender self.new.store ≡ lender self.old.store }
+        ensures value { result ≡ round_answer (world S.marks self.old) round }
+        ensures after { world S.marks self.new ≡ after_round (meaning_of R.Rule) (world S.marks self.old) round }
+        ensures same { S.lender self.new.store ≡ S.lender self.old.store }
     {
         let together = self.together()?;
         match self.check_all(round, together) {
@@ -109,25 +109,25 @@ impl<S: CellStore, R: Rule> Rig<S, R> {
     }
 
     pub fn request_round(&mut self) -> Result<(), Refusal>
-        ensures value { result ≡ round_answer (world marks self.old) Request }
-        ensures after { world marks self.new ≡ after_round (meaning_of R.Rule) (world marks self.old) Request }
-        ensures same { lender self.new.store ≡ lender self.old.store }
+        ensures value { result ≡ round_answer (world S.marks self.old) Request }
+        ensures after { world S.marks self.new ≡ after_round (meaning_of R.Rule) (world S.marks self.old) Request }
+        ensures same { S.lender self.new.store ≡ S.lender self.old.store }
     {
         self.round(Round::Request)
     }
 
     pub fn step_round(&mut self) -> Result<(), Refusal>
-        ensures value { result ≡ round_answer (world marks self.old) Step }
-        ensures after { world marks self.new ≡ after_round (meaning_of R.Rule) (world marks self.old) Step }
-        ensures same { lender self.new.store ≡ lender self.old.store }
+        ensures value { result ≡ round_answer (world S.marks self.old) Step }
+        ensures after { world S.marks self.new ≡ after_round (meaning_of R.Rule) (world S.marks self.old) Step }
+        ensures same { S.lender self.new.store ≡ S.lender self.old.store }
     {
         self.round(Round::Step)
     }
 
     pub fn leave_round(&mut self) -> Result<(), Refusal>
-        ensures value { result ≡ round_answer (world marks self.old) Leave }
-        ensures after { world marks self.new ≡ after_round (meaning_of R.Rule) (world marks self.old) Leave }
-        ensures same { lender self.new.store ≡ lender self.old.store }
+        ensures value { result ≡ round_answer (world S.marks self.old) Leave }
+        ensures after { world S.marks self.new ≡ after_round (meaning_of R.Rule) (world S.marks self.old) Leave }
+        ensures same { S.lender self.new.store ≡ S.lender self.old.store }
     {
         self.round(Round::Leave)
     }

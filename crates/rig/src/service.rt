@@ -59,8 +59,8 @@ fn look<S: CellStore, P: Copy>(
     cells: usize,
 ) -> Result<[Mark; 64], Refusal>
     requires { cells ≤ 64 }
-    ensures value { checked result ≡ store_check cells (marks store.now) (seat_over cells seat.now) Look }
-    ensures seen { IfOk result (λ ms. take cells ms ≡ listed (λ x. mark_at (marks store.now) (entry (seat_over cells seat.now) x)) cells) }
+    ensures value { checked result ≡ store_check cells (S.marks store.now) (seat_over cells seat.now) Look }
+    ensures seen { IfOk result (λ ms. take cells ms ≡ listed (λ x. mark_at (S.marks store.now) (entry (seat_over cells seat.now) x)) cells) }
 {
     let mut seen = [Mark::Empty; 64];
     for before in 0..cells {
@@ -77,10 +77,10 @@ pub fn serve<S: CellStore, P: Copy>(
     want: Want,
 ) -> Result<Outcome, Refusal>
     requires { cells ≤ 64 }
-    ensures value { checked result ≡ store_check cells (marks store.old) (seat_over cells seat.now) want }
-    ensures reply { IfOk result (λ o. reply_by cells o ≡ served cells (marks store.old) (seat_over cells seat.now) want) }
-    ensures after { marks store.new ≡ store_after (marks store.old) (seat_over cells seat.now) want }
-    ensures same { lender store.new ≡ lender store.old }
+    ensures value { checked result ≡ store_check cells (S.marks store.old) (seat_over cells seat.now) want }
+    ensures reply { IfOk result (λ o. reply_by cells o ≡ served cells (S.marks store.old) (seat_over cells seat.now) want) }
+    ensures after { S.marks store.new ≡ store_after (S.marks store.old) (seat_over cells seat.now) want }
+    ensures same { S.lender store.new ≡ S.lender store.old }
 {
     match want {
         Want::Look => {

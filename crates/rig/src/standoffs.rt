@@ -89,9 +89,9 @@ fn seat_standoff<R: Rule>(seats: &mut Seats<R::Phase>, together: usize, agents: 
 impl<S: CellStore, R: Rule> Rig<S, R> {
     // Loads a blank rig as a stand-off, over a store whose cells are all empty.
     pub fn load_standoff(&mut self, agents: usize, cells: usize) -> Result<(), Refusal>
-        ensures value { result ≡ standoff_answer (meaning_of R.Rule) (world marks self.old) agents cells }
-        ensures after { world marks self.new ≡ after_standoff (meaning_of R.Rule) (world marks self.old) agents cells }
-        ensures same { lender self.new.store ≡ lender self.old.store }
+        ensures value { result ≡ standoff_answer (meaning_of R.Rule) (world S.marks self.old) agents cells }
+        ensures after { world S.marks self.new ≡ after_standoff (meaning_of R.Rule) (world S.marks self.old) agents cells }
+        ensures same { S.lender self.new.store ≡ S.lender self.old.store }
     {
         if self.cells != 0 {
             return Err(Refusal::NotBlank);

@@ -46,8 +46,8 @@ fn tell_rounds<S: CellStore, R: Rule>(
     given: &[Round],
     text: &mut Vec<u8>,
 ) -> Result<(), AllocError>
-    ensures rig { OnOk result (world marks rig.new ≡ rounds (meaning_of R.Rule) (world marks rig.old) given.now) }
-    ensures after { OnOk result (text.new.items ≡ text.old.items ++ round_lines (meaning_of R.Rule) (world marks rig.old) given.now) }
+    ensures rig { OnOk result (world S.marks rig.new ≡ rounds (meaning_of R.Rule) (world S.marks rig.old) given.now) }
+    ensures after { OnOk result (text.new.items ≡ text.old.items ++ round_lines (meaning_of R.Rule) (world S.marks rig.old) given.now) }
 {
     for before in 0..given.len() {
         let answer = rig.round(given[before]);
@@ -58,7 +58,7 @@ fn tell_rounds<S: CellStore, R: Rule>(
 
 // Adds the report.
 fn tell_report<S: CellStore, R: Rule>(rig: &Rig<S, R>, text: &mut Vec<u8>) -> Result<(), AllocError>
-    ensures after { OnOk result (text.new.items ≡ text.old.items ++ report_text number (world marks rig.now)) }
+    ensures after { OnOk result (text.new.items ≡ text.old.items ++ report_text number (world S.marks rig.now)) }
 {
     let mut buffer = [0; MAX_REPORT];
     match report(rig, &mut buffer) {
@@ -76,7 +76,7 @@ fn tell<S: CellStore, R: Rule>(
     given: &[Round],
     text: &mut Vec<u8>,
 ) -> Result<(), AllocError>
-    ensures after { OnOk result (text.new.items ≡ text.old.items ++ told (meaning_of R.Rule) (world marks rig.old) agents cells given.now) }
+    ensures after { OnOk result (text.new.items ≡ text.old.items ++ told (meaning_of R.Rule) (world S.marks rig.old) agents cells given.now) }
 {
     match rig.load_standoff(agents, cells) {
         Ok(()) => {

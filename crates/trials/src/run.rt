@@ -20,9 +20,9 @@ fn report_play<S: CellStore, R: ExclusiveRule>(
     file: &[u8],
     buffer: &mut [u8],
 ) -> Result<usize, Refusal>
-    ensures value { result ≡ run_answer (meaning_of R.Rule) (world marks rig.old) file.now buffer.old }
-    ensures after { buffer.new ≡ run_buffer (meaning_of R.Rule) (world marks rig.old) file.now buffer.old }
-    ensures enough { 2336 ≤ length buffer.old → result ≡ run_length (meaning_of R.Rule) (world marks rig.old) file.now }
+    ensures value { result ≡ run_answer (meaning_of R.Rule) (world S.marks rig.old) file.now buffer.old }
+    ensures after { buffer.new ≡ run_buffer (meaning_of R.Rule) (world S.marks rig.old) file.now buffer.old }
+    ensures enough { 2336 ≤ length buffer.old → result ≡ run_length (meaning_of R.Rule) (world S.marks rig.old) file.now }
     ensures inside { IfOk result (λ n. n ≤ length buffer.old) }
     ensures no_two_holders { NoTwoHolders (meaning_of R.Rule) }
 {

@@ -8,16 +8,16 @@ pub loop-flag-init : goal.loop-flag-init
 unfolding count_names
 loop-flag-init c = refl
 
-pub overflow-add-count : goal.overflow-add-count
-overflow-add-count c = omega (arith, c.loop-flag.invariant, count_at_most (flag_at c.args.flags.now) c.loop-flag.flag-index)
+pub overflow_add-count : goal.overflow_add-count
+overflow_add-count c = omega (arith, c.loop-flag.invariant, count_at_most (flag_at c.args.flags.now) c.loop-flag.flag-index)
 
 pub loop-flag-preserved : goal.loop-flag-preserved
 loop-flag-preserved c =
     let test = flag_at c.args.flags.now in
     let n = c.loop-flag.flag-index in
     elim c.if-flag.branch [
-      | then-flag w ↦ w.count_is ∙ ap (λ k. k + 1) c.loop-flag.invariant ∙ sym (count_yes test n (at_next c.args.flags.now n false ∙ w.if-flag.true))
-      | else-flag w ↦ w.count_is ∙ c.loop-flag.invariant ∙ sym (count_no test n (at_next c.args.flags.now n false ∙ w.if-flag.false))
+      | then-flag w ↦ w.count-is ∙ ap (λ k. k + 1) c.loop-flag.invariant ∙ sym (count_yes test n (at_next c.args.flags.now n false ∙ w.if-flag.true))
+      | else-flag w ↦ w.count-is ∙ c.loop-flag.invariant ∙ sym (count_no test n (at_next c.args.flags.now n false ∙ w.if-flag.false))
     ]
 
 pub returns : goal.returns

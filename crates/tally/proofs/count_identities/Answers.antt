@@ -8,16 +8,16 @@ pub loop-before-init : goal.loop-before-init
 unfolding count_names
 loop-before-init c = refl
 
-pub overflow-add-count : goal.overflow-add-count
-overflow-add-count c = omega (arith, c.loop-before.invariant, count_at_most (is_new c.args.marks.now) c.loop-before.before)
+pub overflow_add-count : goal.overflow_add-count
+overflow_add-count c = omega (arith, c.loop-before.invariant, count_at_most (is_new c.args.marks.now) c.loop-before.before)
 
 pub loop-before-preserved : goal.loop-before-preserved
 loop-before-preserved c =
     let test = is_new c.args.marks.now in
     let n = c.loop-before.before in
     elim c.if-is_new_owner.branch [
-      | then-is_new_owner w ↦ w.count_is ∙ ap (λ k. k + 1) c.loop-before.invariant ∙ sym (count_yes test n (sym c.is_new_owner.ensures.value ∙ w.if-is_new_owner.true))
-      | else-is_new_owner w ↦ w.count_is ∙ c.loop-before.invariant ∙ sym (count_no test n (sym c.is_new_owner.ensures.value ∙ w.if-is_new_owner.false))
+      | then-is_new_owner w ↦ w.count-is ∙ ap (λ k. k + 1) c.loop-before.invariant ∙ sym (count_yes test n (sym c.is_new_owner.ensures.value ∙ w.if-is_new_owner.true))
+      | else-is_new_owner w ↦ w.count-is ∙ c.loop-before.invariant ∙ sym (count_no test n (sym c.is_new_owner.ensures.value ∙ w.if-is_new_owner.false))
     ]
 
 pub returns : goal.returns

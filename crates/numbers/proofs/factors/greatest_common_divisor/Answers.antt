@@ -1,4 +1,4 @@
-use Rattle.std.proofs.Common.{sym, refl, ◌∙◌, subst, arith}
+use Rattle.std.proofs.Common.{sym, ◌∙◌, subst, arith}
 use Rattle.numbers.specs.Factors.{GreatestCommonDivisor}
 use Rattle.numbers.proofs.FactorLaws.{gcd_by_zero, gcd_by_turn, gcd_greatest}
 use Rattle.numbers.proofs.factors.greatest_common_divisor.Goals as goal

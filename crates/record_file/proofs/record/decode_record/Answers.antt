@@ -1,4 +1,4 @@
-use Rattle.std.proofs.Common.{◌≡◌, ◌+◌, ◌*◌, ◌≤◌, get_or, sym, refl, inl, inr, ⊎_elim, arith}
+use Rattle.std.proofs.Common.{◌≡◌, ◌+◌, ◌*◌, get_or, sym, refl, inl, ⊎_elim, arith}
 use Rattle.record_file.specs.Records.{value_of}
 use Rattle.numbers.proofs.RowLaws.{within_from}
 use Rattle.record_file.proofs.RecordLaws.{reads_empty, reads_owner, reads_rung, back_empty, four_same}

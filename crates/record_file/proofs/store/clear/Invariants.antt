@@ -1,4 +1,4 @@
-use Rattle.std.proofs.Common.{◌≡◌, ◌≤◌, length}
+use Rattle.std.proofs.Common.{◌≡◌}
 use Rattle.record_file.specs.Records.{emptied}
 use Rattle.record_file.proofs.store.clear.Given as goal
 

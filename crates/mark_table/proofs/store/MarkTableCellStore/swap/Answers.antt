@@ -1,4 +1,4 @@
-use Rattle.std.proofs.Common.{◌≡◌, Bool, cond, sym, refl, ap, ◌∙◌}
+use Rattle.std.proofs.Common.{cond, sym, refl, ap, ◌∙◌}
 use Rattle.cells.specs.Marks.{same_mark, put}
 use Rattle.cells.proofs.StoreLaws.{swap_accepted, swap_put}
 use Rattle.mark_table.specs.Tables.{table_marks}

@@ -1,4 +1,4 @@
-use Rattle.std.proofs.Common.{◌≡◌, replicate, ap, ◌∙◌, arith}
+use Rattle.std.proofs.Common.{replicate, ap, ◌∙◌, arith}
 use Rattle.std.proofs.lemmas.List.{take-replicate}
 use Rattle.cells.specs.declared.mark.Mark.TheVariants.{Empty}
 use Rattle.mark_table.proofs.table.MarkTable.new.Goals as goal

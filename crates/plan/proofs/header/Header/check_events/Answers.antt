@@ -1,4 +1,4 @@
-use Rattle.std.proofs.Common.{◌+◌, not, sym, ap, ◌∙◌, arith}
+use Rattle.std.proofs.Common.{not, sym, ap, arith}
 use Rattle.refusal.specs.declared.Refusal.TheVariants.{BadEvent}
 use Rattle.numbers.proofs.FirstLaws.{none_push, first_up_to, none_up_to}
 use Rattle.refusal.specs.Checks.{refuse_at}

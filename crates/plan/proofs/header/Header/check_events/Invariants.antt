@@ -1,4 +1,4 @@
-use Rattle.std.proofs.Common.{◌≡◌, not}
+use Rattle.std.proofs.Common.{not}
 use Rattle.numbers.specs.First.{NonePasses}
 use Rattle.plan.specs.Checks.{known}
 use Rattle.plan.proofs.header.Header.check_events.Given as goal

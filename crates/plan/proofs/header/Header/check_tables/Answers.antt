@@ -1,4 +1,4 @@
-use Rattle.std.proofs.Common.{◌≡◌, ℕ, ◌+◌, is_some, sym, ap, ◌∙◌, arith}
+use Rattle.std.proofs.Common.{is_some, sym, ap, ◌∙◌, arith}
 use Rattle.refusal.specs.declared.Refusal.TheVariants.{BadEntry}
 use Rattle.numbers.proofs.FirstLaws.{none_push, first_up_to, none_up_to}
 use Rattle.refusal.specs.Checks.{refuse_at}

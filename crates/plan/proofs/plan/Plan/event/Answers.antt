@@ -1,6 +1,6 @@
 use Rattle.std.proofs.Common.{Some, sym, ap, ◌∙◌}
 use Rattle.numbers.proofs.NameLaws.{named_in, named_out}
-use Rattle.plan.specs.Plans.{event_at, event_of}
+use Rattle.plan.specs.Plans.{event_at}
 use Rattle.plan.proofs.plan.Plan.event.Goals as goal
 
 pub returns-then-not-is_name : goal.returns-then-not-is_name

@@ -1,4 +1,4 @@
-use Rattle.std.proofs.Common.{◌≡◌, ℕ, List, Some, None, Option, sym, ap, ◌∙◌}
+use Rattle.std.proofs.Common.{ℕ, Some, sym, ap, ◌∙◌}
 use Rattle.numbers.specs.Names.{listed}
 use Rattle.numbers.proofs.NameLaws.{named_in, named_out}
 use Rattle.plan.specs.Plans.{entry_at, entry_in}

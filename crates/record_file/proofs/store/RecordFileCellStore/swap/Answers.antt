@@ -1,4 +1,4 @@
-use Rattle.std.proofs.Common.{◌≡◌, cond, sym, refl, ap, ◌∙◌}
+use Rattle.std.proofs.Common.{cond, sym, refl, ap, ◌∙◌}
 use Rattle.cells.specs.Marks.{same_mark}
 use Rattle.record_file.specs.Records.{put_record, start, encoded}
 use Rattle.record_file.proofs.RecordLaws.{inside, room, swapped}

@@ -12,8 +12,8 @@ pub loop-before-init : goal.loop-before-init
 unfolding count_names
 loop-before-init g c = refl
 
-pub overflow-add-asking : goal.overflow-add-asking
-overflow-add-asking g c =
+pub overflow_add-asking : goal.overflow_add-asking
+overflow_add-asking g c =
     let test : ℕ → Bool = λ k. is_asking (section_at (rig_of c.args.self.now) k) in
     omega (arith, c.loop-before.invariant, count_at_most test c.loop-before.before, c.count-before-end.ensures.few)
 

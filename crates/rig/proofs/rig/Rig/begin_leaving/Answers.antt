@@ -7,8 +7,8 @@ use Rattle.rig.proofs.BoundLaws.{peak_below, busiest_put}
 use Rattle.rig.proofs.MoveLaws.{unmoved, placed, agents_are, left_moved}
 use Rattle.rig.proofs.rig.Rig.begin_leaving.Goals as goal
 
-pub invariant-of-self : goal.invariant-of-self
-invariant-of-self g c =
+pub invariant_of-self : goal.invariant_of-self
+invariant_of-self g c =
     let old = c.args.self.now in
     let xs = seated_in old.seats in
     let known = peak_below xs c.args.k c.in-Some.seat.now c.in-Some.ensures.lent in

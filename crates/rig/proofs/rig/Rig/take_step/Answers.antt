@@ -11,8 +11,8 @@ use Rattle.rig.proofs.CallLaws.{seated_as, at_none}
 use Rattle.rig.proofs.MoveLaws.{start, unmoved, placed, agents_are, put_back, store_kept, step_check, stepped_moved, stepped_refused}
 use Rattle.rig.proofs.rig.Rig.take_step.Goals as goal
 
-pub invariant-of-self : goal.invariant-of-self
-invariant-of-self g c =
+pub invariant_of-self : goal.invariant_of-self
+invariant_of-self g c =
     let old = c.args.self.now in
     let xs = seated_in old.seats in
     let known = peak_below xs c.args.k c.in-Some.seat.now c.in-Some.ensures.lent in
@@ -50,8 +50,8 @@ count_step-requires g c =
     let known = peak_below (seated_in old.seats) c.args.k c.in-Some.seat.now c.in-Some.ensures.lent in
     record { steps = omega (arith, known, old.counted, old.heard_few); entries = omega (arith, known, old.counted, old.heard_few) }
 
-pub invariant-of-self-in-Some : goal.invariant-of-self-in-Some
-invariant-of-self-in-Some g c =
+pub invariant_of-self-in-Some : goal.invariant_of-self-in-Some
+invariant_of-self-in-Some g c =
     let old = c.args.self.now in
     let xs = seated_in old.seats in
     let known = peak_below xs c.args.k c.in-Some.seat.now c.in-Some.ensures.lent in

@@ -5,13 +5,13 @@ use Rattle.rig.proofs.BoundLaws.{peak_below, busiest_put}
 use Rattle.rig.proofs.CallLaws.{seats_put, at_there, at_none, seated_as}
 use Rattle.rig.proofs.rig.Rig.turn_away.Goals as goal
 
-pub overflow-add-seat : goal.overflow-add-seat
-overflow-add-seat g c =
+pub overflow_add-seat : goal.overflow_add-seat
+overflow_add-seat g c =
     let known = peak_below (seated_in c.args.self.now.seats) c.args.k c.in-Some.seat.now c.in-Some.ensures.lent in
     omega (arith, known, c.args.self.now.counted)
 
-pub invariant-of-self : goal.invariant-of-self
-invariant-of-self g c =
+pub invariant_of-self : goal.invariant_of-self
+invariant_of-self g c =
     let old = c.args.self.now in
     let known = peak_below (seated_in old.seats) c.args.k c.in-Some.seat.now c.in-Some.ensures.lent in
     let put = c.seat.follows.holds _ (ap is_some c.in-Some.is) in
