@@ -1,5 +1,5 @@
 -- Laws of counts. Assumes nothing.
-use Rattle.std.proofs.Common.{◌≡◌, ℕ, zero, suc, ◌+◌, ◌-◌, ◌<◌, ◌≤◌, max, Bool, true, false, cond, List, length, get_or, take, sym, refl, ap, ◌∙◌, subst, add-one, arith, length-take-le, get_or-take}
+use Rattle.std.proofs.Common.{◌≡◌, ℕ, zero, suc, ◌+◌, ◌-◌, ◌≤◌, max, Bool, true, false, cond, List, length, get_or, take, sym, refl, ap, ◌∙◌, add-one, arith, length-take-le, get_or-take}
 use Rattle.std.proofs.lemmas.Bool.{cond_both}
 use Rattle.numbers.specs.First.{first_of}
 use Rattle.numbers.proofs.FirstLaws.{first_same}

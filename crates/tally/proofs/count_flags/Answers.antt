@@ -1,4 +1,4 @@
-use Rattle.std.proofs.Common.{◌≡◌, ◌+◌, true, false, length, get_or, sym, refl, ap, ◌∙◌, subst, arith}
+use Rattle.std.proofs.Common.{◌≡◌, ◌+◌, false, length, sym, refl, ap, ◌∙◌, arith}
 use Rattle.tally.specs.Counts.{count_names, flag_at}
 use Rattle.tally.proofs.CountLaws.{count_yes, count_no, count_at_most, at_next}
 use Rattle.tally.proofs.count_flags.Goals as goal

@@ -1,6 +1,6 @@
-use Rattle.std.proofs.Common.{◌≡◌, ◌+◌, true, false, length, get_or, sym, refl, ap, ◌∙◌, subst, arith}
+use Rattle.std.proofs.Common.{◌≡◌, ◌+◌, length, sym, refl, ap, ◌∙◌, arith}
 use Rattle.tally.specs.Counts.{count_names, is_new}
-use Rattle.tally.proofs.CountLaws.{count_yes, count_no, count_at_most, at_next}
+use Rattle.tally.proofs.CountLaws.{count_yes, count_no, count_at_most}
 use Rattle.tally.proofs.count_identities.Goals as goal
 use Rattle.tally.proofs.count_identities.Goals.{then-is_new_owner, else-is_new_owner}
 

@@ -1,4 +1,4 @@
-use Rattle.std.proofs.Common.{◌≡◌, ◌+◌, true, false, length, get_or, sym, refl, ap, ◌∙◌, subst, arith}
+use Rattle.std.proofs.Common.{◌≡◌, ◌+◌, length, sym, refl, ap, ◌∙◌, arith}
 use Rattle.cells.specs.Marks.{same_mark}
 use Rattle.cells.specs.declared.mark.Mark.TheVariants.{Empty}
 use Rattle.tally.specs.Counts.{count_names, has}

@@ -1,4 +1,4 @@
-use Rattle.std.proofs.Common.{◌≡◌, ◌+◌, max, length, sym, refl, ap, ◌∙◌, arith}
+use Rattle.std.proofs.Common.{◌≡◌, length, refl, ap, ◌∙◌, arith}
 use Rattle.tally.specs.Counts.{largest, times_at}
 use Rattle.tally.proofs.CountLaws.{largest_more}
 use Rattle.tally.proofs.most_of_one_identity.Goals as goal
