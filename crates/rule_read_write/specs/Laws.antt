@@ -1,13 +1,13 @@
 -- The laws of rule 1. Assumes nothing.
-use Rattle.std.specs.Prelude.{◌≡◌, ℕ, ◌+◌, ◌*◌, ◌<◌, ◌≤◌, Bool, true, false, cond, not, ◌&&◌, ◌⊎◌, List, map, length, replicate, Some, None, Option, ◌==◌, nat_lt, refl}
-use Rattle.std.proofs.Common.{sym, ap, subst, ◌∙◌, inl, inr, ⊎_elim, arith}
+use Rattle.std.specs.Prelude.{◌≡◌, ℕ, ◌+◌, ◌*◌, ◌≤◌, Bool, true, false, cond, not, ◌&&◌, ◌⊎◌, List, map, length, Some, None, Option, ◌==◌, nat_lt, refl}
+use Rattle.std.proofs.Common.{ap, ◌∙◌, inl, inr, ⊎_elim, arith}
 use Rattle.std.proofs.lemmas.List.{length-map}
-use Rattle.std.proofs.lemmas.Bool.{cond_both, cases_Bool, ltb-true}
+use Rattle.std.proofs.lemmas.Bool.{cond_both, ltb-true}
 use Rattle.numbers.proofs.FirstLaws.{first_tells_some}
 use Rattle.numbers.proofs.RowLaws.{within_from}
 use Rattle.cells.specs.Marks.{lawful, same_mark}
 use Rattle.cells.specs.declared.mark.Mark.{Mark}
-use Rattle.cells.specs.declared.mark.Mark.TheVariants.{Empty, Owner, Rung}
+use Rattle.cells.specs.declared.mark.Mark.TheVariants.{Empty}
 use Rattle.tally.specs.Counts.{has, times, lowest, identities}
 use Rattle.rules.specs.Lawful.{Sized, LawfulIdentity, AllLawful, Moves, Fits, Permutes, replaced, replaced_agent, replaced_reply}
 use Rattle.rules.specs.Records.{Reply, marks, cell, done, went, loaded_agent, own, going, having_seen, overlaid}

@@ -9,7 +9,7 @@ use Rattle.rules.specs.declared.agent.Agent.{Agent}
 use Rattle.rules.specs.declared.agent.Section.{Section}
 use Rattle.rules.specs.declared.agent.Section.TheVariants.{Idle, Asking, Holding, Leaving}
 use Rattle.rules.specs.declared.want.Want.{Want}
-use Rattle.rules.specs.declared.want.Want.TheVariants.{Look as WantLook, Read as WantRead, Write as WantWrite, Swap as WantSwap}
+use Rattle.rules.specs.declared.want.Want.TheVariants.{Look as WantLook, Read as WantRead, Write as WantWrite}
 use Rattle.rule_read_write.specs.declared.judging.Verdict.{Verdict}
 use Rattle.rule_read_write.specs.declared.judging.Verdict.TheVariants.{Hold, Again, Put as PutAt, Withdraw}
 use Rattle.rule_read_write.specs.declared.phase.ReadWritePhase.{ReadWritePhase}

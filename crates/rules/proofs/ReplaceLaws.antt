@@ -1,19 +1,18 @@
 -- Identities replaced: what counts, and what stays lawful. Assumes nothing.
-use Rattle.std.proofs.Common.{◌≡◌, ℕ, zero, suc, ◌+◌, ◌-◌, ◌<◌, ◌≤◌, Bool, true, false, cond, not, ◌&&◌, eqb, ◌⊎◌, List, [], ◌∷◌, map, length, get_or, take, set, replicate, is_some, sym, refl, ap, ◌∙◌, subst, inl, inr, ⊎_elim, arith, get_or-take}
-use Rattle.std.proofs.lemmas.List.{get_or-map, get_or_past, length-map, length-set, length-take, get_or-set_same, get_or-set_other, set_past, get_or-replicate, length-replicate}
-use Rattle.std.proofs.lemmas.Bool.{cases_lt, cases_eq, cases_Bool, eqb-true, eqb-false, eq-eqb, ne_eqb}
+use Rattle.std.proofs.Common.{◌≡◌, ℕ, zero, suc, ◌+◌, ◌-◌, ◌≤◌, true, cond, not, ◌&&◌, List, [], ◌∷◌, map, length, get_or, take, set, replicate, is_some, sym, refl, ap, ◌∙◌, subst, ⊎_elim, arith, get_or-take}
+use Rattle.std.proofs.lemmas.List.{get_or-map, get_or_past, length-map, length-take, get_or-set_same, get_or-set_other, set_past, get_or-replicate, length-replicate}
+use Rattle.std.proofs.lemmas.Bool.{cases_lt, cases_eq, eq-eqb, ne_eqb}
 use Rattle.numbers.specs.First.{first_of}
-use Rattle.numbers.specs.Rows.{Distinct, within}
 use Rattle.numbers.proofs.FirstLaws.{first_same}
 use Rattle.numbers.proofs.Pigeonhole.{apart_both}
 use Rattle.numbers.proofs.RowLaws.{within_true, within_from}
-use Rattle.cells.specs.Marks.{lawful, same_mark, mark_at, put}
+use Rattle.cells.specs.Marks.{lawful, same_mark, mark_at}
 use Rattle.cells.specs.declared.mark.Mark.{Mark}
 use Rattle.cells.specs.declared.mark.Mark.TheVariants.{Empty, Owner, Rung}
 use Rattle.tally.specs.Counts.{count_names, largest, is_owner, has, times, lowest, is_new, identities, times_at, most_of_one}
 use Rattle.tally.proofs.CountLaws.{count_same, largest_same}
 use Rattle.rules.specs.Records.{overlaid}
-use Rattle.rules.specs.Lawful.{AllLawful, LawfulIdentity, Permutes, replaced}
+use Rattle.rules.specs.Lawful.{AllLawful, Permutes, replaced}
 
 -- lists of lawful marks
 

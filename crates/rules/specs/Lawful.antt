@@ -1,5 +1,5 @@
 -- What makes a rule lawful. Assumes nothing.
-use Rattle.std.specs.Prelude.{◌≡◌, ℕ, ◌≤◌, Bool, true, false, ◌⊎◌, List, map, length}
+use Rattle.std.specs.Prelude.{◌≡◌, ℕ, ◌≤◌, true, ◌⊎◌, List, map, length}
 use Rattle.numbers.specs.Rows.{Distinct}
 use Rattle.cells.specs.Marks.{lawful, mark_at}
 use Rattle.cells.specs.declared.mark.Mark.{Mark}

@@ -1,4 +1,4 @@
-use Rattle.std.proofs.Common.{◌≡◌, length, get_or, take, set, refl, ap, ◌∙◌, arith, take_all}
+use Rattle.std.proofs.Common.{get_or, set, refl, ap, ◌∙◌, arith, take_all}
 use Rattle.cells.specs.declared.mark.Mark.TheVariants.{Empty}
 use Rattle.rules.specs.Records.{overlaid}
 use Rattle.rules.proofs.ListLaws.{overlaid_more}
