@@ -1,21 +1,19 @@
 -- Runs on the model, by computing. Assumes nothing.
-use Rattle.std.specs.Prelude.{◌≡◌, ℕ, zero, suc, ◌-◌, List, [], ◌∷◌, ◌++◌, map, get_or, replicate, Some, None, Ok, Err, Option}
+use Rattle.std.specs.Prelude.{◌≡◌, ℕ, zero, suc, ◌-◌, List, [], ◌∷◌, ◌++◌, map, replicate, Some, Ok, Err, Option}
 use Rattle.numbers.specs.Factors.{smallest_common_factor}
 use Rattle.refusal.specs.Checks.{Check}
 use Rattle.refusal.specs.declared.Refusal.TheVariants.{NoSuchAgent, NotHolding}
 use Rattle.plan.specs.Plans.{Sayings}
 use Rattle.plan.specs.declared.event.Event.{Event}
 use Rattle.plan.specs.declared.event.Event.TheVariants.{Request, Step, Leave}
-use Rattle.cells.specs.declared.mark.Mark.{Mark}
 use Rattle.cells.specs.declared.mark.Mark.TheVariants.{Empty, Owner}
 use Rattle.rules.specs.declared.agent.Section.{Section}
-use Rattle.rules.specs.declared.agent.Section.TheVariants.{Idle, Asking, Holding, Leaving}
+use Rattle.rules.specs.declared.agent.Section.TheVariants.{Asking, Holding}
 use Rattle.rule_read_write.specs.declared.phase.ReadWritePhase.{ReadWritePhase}
-use Rattle.model.specs.Meanings.{Meaning, read_and_write, by_majority, by_ladder}
-use Rattle.model.specs.Rigs.{Rig, World, Seat, section_at, section_answer, figure_at, holder, answer, run}
+use Rattle.model.specs.Meanings.{Meaning, read_and_write}
+use Rattle.model.specs.Rigs.{Rig, World, section_at, section_answer, figure_at, holder, answer, run}
 use Rattle.model.specs.Loads.{blank_world, loaded_world, load_answer, standoff_world, standoff_answer}
 use Rattle.model.specs.Rounds.{round_answer, rounds}
-use Rattle.model.specs.declared.Round.{Round}
 use Rattle.model.specs.declared.Round.TheVariants as round
 
 -- two agents, 700 and 41, over three cells that the second calls 2, 3, 1

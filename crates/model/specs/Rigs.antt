@@ -1,5 +1,5 @@
 -- A rig of agents over a list of marks: what each call answers, and what the rig is afterwards. Assumes nothing.
-use Rattle.std.specs.Prelude.{ℕ, zero, suc, ◌+◌, ◌-◌, max, Bool, true, false, cond, not, List, [], ◌∷◌, length, is_some, Some, None, Ok, Err, Option, Result, nat_le, slice_index, slice_set}
+use Rattle.std.specs.Prelude.{ℕ, ◌+◌, ◌-◌, max, Bool, true, false, cond, not, List, [], ◌∷◌, length, is_some, Some, None, Ok, Err, Option, Result, nat_le, slice_index, slice_set}
 use Rattle.numbers.specs.First.{first_of}
 use Rattle.numbers.specs.Names.{named, listed}
 use Rattle.numbers.specs.Rows.{within}

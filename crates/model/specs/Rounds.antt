@@ -1,5 +1,5 @@
 -- Rounds of a stand-off: one call for each of the agents that move together. Assumes nothing.
-use Rattle.std.specs.Prelude.{ℕ, zero, suc, ◌+◌, Bool, true, false, List, [], ◌∷◌, is_some, Some, None, Ok, Err, Option, nat_lt}
+use Rattle.std.specs.Prelude.{ℕ, zero, suc, ◌+◌, Bool, true, false, List, [], ◌∷◌, is_some, Some, None, Err, Option, nat_lt}
 use Rattle.numbers.specs.First.{first_of}
 use Rattle.refusal.specs.Checks.{◌then◌, Check, refuse_if}
 use Rattle.refusal.specs.declared.Refusal.{Refusal}

@@ -65,7 +65,7 @@ pub fn owners_on_standoff() -> [u16; 4]
 // Two agents that hold together by rule 1 where three share two cells: without the check of the number of cells the lock
 // is none.
 pub fn holders_over_too_few_cells() -> (usize, usize)
-    ensures* outcome { λ (one, other). ⌜ BothHold one other ⌝ }
+    ensures outcome { BothHold result.0 result.1 }
 {
     (1, 2)
 }

@@ -37,8 +37,8 @@ pub fn play_twins<S: CellStore, T: CellStore, R: Rule>(
     file: &[u8],
     twin: &[u8],
 ) -> (Result<(), Refusal>, Result<(), Refusal>)
-    ensures* value { λ (one, two). ⌜ one ≡ load_answer (meaning_of R.Rule) (world S.marks first.old) file.now ⌝ }
-    ensures* value_second { λ (one, two). ⌜ two ≡ load_answer (meaning_of R.Rule) (world T.marks second.old) twin.now ⌝ }
+    ensures value { result.0 ≡ load_answer (meaning_of R.Rule) (world S.marks first.old) file.now }
+    ensures value_second { result.1 ≡ load_answer (meaning_of R.Rule) (world T.marks second.old) twin.now }
     ensures after { world S.marks first.new ≡ after_run (meaning_of R.Rule) (world S.marks first.old) file.now file.now }
     ensures after_second { world T.marks second.new ≡ after_run (meaning_of R.Rule) (world T.marks second.old) twin.now file.now }
     ensures same { S.lender first.new.store ≡ S.lender first.old.store }
