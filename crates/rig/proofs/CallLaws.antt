@@ -1,14 +1,13 @@
 -- What the rig hears, and what a call changes. Assumes nothing.
-use Rattle.std.proofs.Common.{◌≡◌, ℕ, ◌-◌, ◌<◌, ◌≤◌, true, false, not, leb, List, map, length, set, is_some, Some, None, Ok, Err, Option, sym, refl, ap, ◌∙◌}
+use Rattle.std.proofs.Common.{◌≡◌, ℕ, ◌-◌, ◌<◌, ◌≤◌, true, false, not, leb, List, map, length, set, is_some, Some, None, Ok, Err, Option, sym, ap, ◌∙◌}
 use Rattle.std.proofs.lemmas.List.{length-map, map-set}
 use Rattle.std.proofs.lemmas.Bool.{le-leb, lt-leb}
 use Rattle.numbers.specs.Names.{named}
 use Rattle.numbers.specs.Rows.{within}
-use Rattle.refusal.specs.Checks.{◌then◌, Check, refuse_if}
+use Rattle.refusal.specs.Checks.{◌then◌, refuse_if}
 use Rattle.refusal.specs.declared.Refusal.TheVariants.{NoSuchAgent, OnStandoff, HeardAll}
 use Rattle.cells.specs.declared.mark.Mark.{Mark}
 use Rattle.model.specs.Rigs as model
-use Rattle.rig.specs.Moves.{away}
 use Rattle.rig.specs.Worlds.{seat_over}
 use Rattle.rig.specs.declared.seat.Seat.{Seat}
 use Rattle.rig.proofs.QuestionLaws.{then_passed, then_refused}

@@ -4,7 +4,6 @@ use Rattle.std.proofs.lemmas.List.{length-map}
 use Rattle.numbers.specs.Names.{named}
 use Rattle.refusal.specs.Checks.{◌then◌, Check}
 use Rattle.refusal.specs.declared.Refusal.{Refusal}
-use Rattle.plan.specs.declared.event.Event.{Event}
 use Rattle.plan.specs.declared.event.Event.TheVariants.{Request, Step, Leave}
 use Rattle.cells.specs.Marks.{put, name_check, mark_check, mark_at, same_mark, says_yes}
 use Rattle.cells.specs.declared.mark.Mark.{Mark}

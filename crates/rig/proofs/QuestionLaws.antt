@@ -1,5 +1,5 @@
 -- What the questions answer of an agent that is there, and of one that is not. Assumes nothing.
-use Rattle.std.proofs.Common.{◌≡◌, ℕ, not, Some, None, Ok, Err, Result, sym, refl, ap, ◌∙◌}
+use Rattle.std.proofs.Common.{◌≡◌, ℕ, not, Some, None, Ok, Err, Result, ap, ◌∙◌}
 use Rattle.numbers.specs.Names.{named}
 use Rattle.refusal.specs.Checks.{◌then◌, Check, refuse_if}
 use Rattle.refusal.specs.declared.Refusal.{Refusal}

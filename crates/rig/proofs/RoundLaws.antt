@@ -1,5 +1,5 @@
 -- Rounds, agent by agent. Assumes nothing.
-use Rattle.std.proofs.Common.{◌≡◌, ℕ, zero, suc, ◌+◌, ◌≤◌, Bool, true, false, is_some, is_err, Some, None, Ok, Err, Option, sym, refl, ap, ◌∙◌, subst, le_refl, add-one, arith}
+use Rattle.std.proofs.Common.{◌≡◌, ℕ, ◌+◌, ◌≤◌, true, false, is_some, is_err, Some, None, Ok, Err, Option, sym, refl, ap, ◌∙◌, le_refl, add-one, arith}
 use Rattle.numbers.specs.First.{NonePasses}
 use Rattle.numbers.specs.Names.{named}
 use Rattle.numbers.proofs.FirstLaws.{none_up_to, first_up_to}

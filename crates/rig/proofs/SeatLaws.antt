@@ -1,10 +1,9 @@
 -- Laws of lists with names from 1 on, as seats are lent from them. Assumes nothing.
-use Rattle.std.proofs.Common.{◌≡◌, ℕ, zero, suc, ◌-◌, ◌<◌, ◌≤◌, true, false, ◌⊎◌, List, [], ◌∷◌, map, length, get_or, set, Some, None, Option, sym, refl, ap, ◌∙◌, subst, ⊎_elim, arith, Bor}
-use Rattle.std.proofs.lemmas.List.{length-set, get_or-set_same, get_or-set_other}
+use Rattle.std.proofs.Common.{◌≡◌, ℕ, zero, suc, ◌-◌, ◌≤◌, true, false, List, [], ◌∷◌, map, length, get_or, Some, None, Option, sym, refl, ap, ◌∙◌, ⊎_elim, arith}
 use Rattle.std.proofs.lemmas.Option.{slice_get-get_or}
 use Rattle.std.proofs.lemmas.Bool.{cases_lt, cases_Bool}
 use Rattle.std.specs.Option.{option_map}
-use Rattle.std.specs.Slice.{IsGetResult}
+use Rattle.std.specs.List.{ItemBy}
 use Rattle.numbers.specs.Names.{named}
 use Rattle.numbers.specs.Rows.{within}
 use Rattle.numbers.proofs.NameLaws.{named_zero, named_past}
@@ -22,9 +21,9 @@ pub named_none : {A : Type 0} (xs : List A) (k : ℕ) → k ≡ 0 → None ≡ n
 named_none xs k e = sym (ap (named xs) e ∙ named_zero xs)
 
 -- an element that is lent by its place is the one with the next name
-pub lent_named : {A : Type 0} (xs : List A) (k : ℕ) (r : Option (Bor A)) → 1 ≤ k → IsGetResult xs (k - 1) (k - 1) r → option_map (λ x. x.now) r ≡ named xs k
-lent_named xs k None a i = sym (named_past xs k (omega (arith, i.3)))
-lent_named xs k (Some x) a i = ap Some (i.3.1 x.now) ∙ sym (named_there xs k x.now a (omega (arith, i.3.0)))
+pub lent_named : {R A : Type 0} (now' : R → A) (xs : List A) (k : ℕ) (r : Option R) → 1 ≤ k → ItemBy now' xs (k - 1) (k - 1) r → option_map now' r ≡ named xs k
+lent_named now' xs k None a i = sym (named_past xs k (omega (arith, i.3)))
+lent_named now' xs k (Some x) a i = ap Some (i.3.1 (now' x)) ∙ sym (named_there xs k (now' x) a (omega (arith, i.3.0)))
 
 pub named_some : {A : Type 0} (xs : List A) (k : ℕ) (x : A) → named xs k ≡ Some x → (1 ≤ k) × (k ≤ length xs)
 named_some xs zero x e = let z : ◌≡◌ {A = ℕ} 0 1 = cc (e, named_zero xs) in absurd (omega arith)

@@ -1,8 +1,8 @@
 -- What the store answers an agent through its table. Assumes nothing.
-use Rattle.std.proofs.Common.{◌≡◌, ℕ, ◌+◌, ◌-◌, ◌<◌, ◌≤◌, min, Bool, true, false, not, List, length, get_or, take, set, IfOk, Ok, Err, Result, sym, refl, ap, ◌∙◌, subst, ⊎_elim, arith}
+use Rattle.std.proofs.Common.{◌≡◌, ℕ, ◌+◌, ◌-◌, ◌<◌, ◌≤◌, Bool, true, false, not, List, length, get_or, take, set, IfOk, Ok, Err, Result, sym, ap, ◌∙◌, subst, ⊎_elim, arith}
 use Rattle.std.proofs.lemmas.List.{get_or-take, get_or_past, get_or-set_same, get_or-set_other, length-take}
 use Rattle.std.proofs.lemmas.Bool.{cases_Bool, cases_eq}
-use Rattle.numbers.specs.First.{first_of, NonePasses}
+use Rattle.numbers.specs.First.{NonePasses}
 use Rattle.numbers.specs.Names.{listed}
 use Rattle.numbers.specs.Rows.{within}
 use Rattle.numbers.proofs.FirstLaws.{none_up_to, first_up_to}

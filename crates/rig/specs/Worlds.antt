@@ -2,6 +2,7 @@
 use Rattle.std.specs.Prelude.{ℕ, List, map, take}
 use Rattle.cells.specs.declared.mark.Mark.{Mark}
 use Rattle.model.specs.Rigs as model
+use Rattle.rules.specs.declared.rule.Rule.{Ghosts}
 use Rattle.rig.specs.Seating.{seated_in}
 use Rattle.rig.specs.declared.rig.Rig.{Rig}
 use Rattle.rig.specs.declared.seat.Seat.{Seat}
@@ -17,7 +18,7 @@ seat_over m s = record {
 }
 
 -- the rig without its store
-abbrev pub rig_of : {S R P : Type 0} → Rig S R P → model.Rig P
+abbrev pub rig_of : {S R P : Type 0} {r : Ghosts R P} → Rig S R P r → model.Rig P
 rig_of g = record {
   cells = g.cells;
   seats = map (seat_over g.cells) (seated_in g.seats);
@@ -27,5 +28,5 @@ rig_of g = record {
 }
 
 -- the rig with its store's marks
-abbrev pub world : {S R P : Type 0} → (S → List Mark) → Rig S R P → model.World P
+abbrev pub world : {S R P : Type 0} {r : Ghosts R P} → (S → List Mark) → Rig S R P r → model.World P
 world marks g = record { rig = rig_of g; store = marks g.store }

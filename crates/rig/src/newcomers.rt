@@ -8,7 +8,7 @@ use rules::{Agent, Rule, Section};
 
 // An idle agent at local name 1, with nothing seen and no figures.
 pub fn new_seat<R: Rule>(identity: u16, table: [u8; 64]) -> Seat<R::Phase>
-    ensures value { result ≡ newcomer loaded identity table }
+    ensures value { result ≡ newcomer R.loaded identity table }
 {
     let agent = Agent {
         section: Section::Idle,

@@ -24,7 +24,7 @@ impl<P: Copy> Seats<P> {
     // The seat of agent k, to be changed.
     pub(crate) fn seat(&mut self, k: usize) -> Option<&mut Seat<P>>
         ensures* lent { sem 𝓛 (follows_so (the_row P.row) (seat-row P.row) self.entry.ghost_name (name_of result) (λ w n. is_some result ≡ true → seated_in n ≡ slice_set (seated_in self.old) (k - 1) w) (λ n. seated_in n ≡ seated_in self.old)) }
-        ensures lent_facts { option_map (λ x. x.now) result ≡ named (seated_in self.old) k }
+        ensures found { option_map (λ x. x.now) result ≡ named (seated_in self.old) k }
     {
         if k == 0 {
             return None;

@@ -7,13 +7,13 @@ use Rattle.rig.proofs.BoundLaws.{peak_below, busiest_put}
 use Rattle.rig.proofs.MoveLaws.{unmoved, placed, agents_are, left_moved}
 use Rattle.rig.proofs.rig.Rig.begin_leaving.Goals as goal
 
-pub invariant_of-self : goal.invariant_of-self
-invariant_of-self g c =
+pub invariant_of-self-clause-counted : goal.invariant_of-self-clause-counted
+invariant_of-self-clause-counted g c =
     let old = c.args.self.now in
     let xs = seated_in old.seats in
-    let known = peak_below xs c.args.k c.in-Some.seat.now c.in-Some.ensures.lent in
+    let known = peak_below xs c.args.k c.in-Some.seat.now c.in-Some.ensures.found in
     let put = c.seat.follows.holds _ (ap is_some c.in-Some.is) in
-    (old.few, (omega arith, (busiest_put xs _ c.args.k _ (old.heard + 1) put (omega (arith, old.counted)) (omega (arith, known, old.counted)), tt)))
+    busiest_put xs _ c.args.k _ (old.heard + 1) put (omega (arith, old.counted)) (omega (arith, known, old.counted))
 
 pub returns-in-Some : goal.returns-in-Some
 returns-in-Some g c =
@@ -23,7 +23,7 @@ returns-in-Some g c =
     let ms = g.S.CellStore.marks old.store in
     let s = c.in-Some.seat.now in
     let R = meaning_of g.R.Rule in
-    let found = c.in-Some.ensures.lent in
+    let found = c.in-Some.ensures.found in
     let put = c.seat.follows.holds _ (ap is_some c.in-Some.is) in
     let n = agents_are m old.heard old.crowd old.standoff ms xs c.args.k R s found c.count-agents.result c.count-agents.ensures.value in
     let record' = c.leave.ensures.after ∙ ap (λ a. g.R.Rule.left a m s.agent) n in
@@ -39,6 +39,6 @@ pub returns-in_default : goal.returns-in_default
 returns-in_default g c =
     let old = c.args.self.now in
     record {
-      after = unmoved old.cells old.heard old.crowd old.standoff (g.S.CellStore.marks old.store) (seated_in old.seats) c.args.k _ _ c.seat.follows.holds-at-none c.in_default.ensures.lent;
+      after = unmoved old.cells old.heard old.crowd old.standoff (g.S.CellStore.marks old.store) (seated_in old.seats) c.args.k _ _ c.seat.follows.holds-at-none c.in_default.ensures.found;
       same = refl;
     }

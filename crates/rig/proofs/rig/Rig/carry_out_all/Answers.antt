@@ -1,6 +1,6 @@
-use Rattle.std.proofs.Common.{◌≡◌, ℕ, ◌+◌, ◌≤◌, sym, refl, ap, ◌∙◌, arith}
+use Rattle.std.proofs.Common.{◌≡◌, ◌+◌, sym, refl, ap, ◌∙◌, arith}
 use Rattle.model.specs.Meanings.{meaning_of}
-use Rattle.model.specs.Rigs.{World, moved}
+use Rattle.model.specs.Rigs.{moved}
 use Rattle.model.specs.Rounds.{given, in_turn}
 use Rattle.rig.specs.Worlds.{world}
 use Rattle.rig.proofs.RoundLaws.{in_turn_more, moved_heard}

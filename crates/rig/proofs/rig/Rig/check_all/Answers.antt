@@ -1,4 +1,4 @@
-use Rattle.std.proofs.Common.{◌≡◌, ◌+◌, is_err, Err, sym, ap, ◌∙◌, arith}
+use Rattle.std.proofs.Common.{◌+◌, is_err, Err, sym, ap, ◌∙◌, arith}
 use Rattle.numbers.proofs.FirstLaws.{none_push}
 use Rattle.model.specs.Rigs.{section_check, section_at}
 use Rattle.model.specs.Rounds.{given, may_not}

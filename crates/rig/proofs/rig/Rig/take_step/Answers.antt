@@ -1,23 +1,26 @@
-use Rattle.std.proofs.Common.{◌+◌, ◌≤◌, true, false, cond, map, is_some, Ok, Err, sym, refl, ap, ◌∙◌, arith}
+use Rattle.std.proofs.Common.{◌+◌, map, is_some, Ok, Err, sym, refl, ap, ◌∙◌, arith}
 use Rattle.std.proofs.lemmas.Result.{err_from_is_err_and}
-use Rattle.plan.specs.declared.event.Event.TheVariants.{Step}
 use Rattle.rules.specs.Records.{reply_of}
 use Rattle.model.specs.Meanings.{meaning_of}
-use Rattle.model.specs.Rigs.{stepped, served, store_after, serving_check}
+use Rattle.model.specs.Rigs.{stepped, served, store_after}
 use Rattle.rig.specs.Seating.{seated_in}
 use Rattle.rig.specs.Worlds.{seat_over}
 use Rattle.rig.proofs.BoundLaws.{peak_below, peak_stepped, busiest_put}
 use Rattle.rig.proofs.CallLaws.{seated_as, at_none}
-use Rattle.rig.proofs.MoveLaws.{start, unmoved, placed, agents_are, put_back, store_kept, step_check, stepped_moved, stepped_refused}
+use Rattle.rig.proofs.MoveLaws.{unmoved, placed, agents_are, put_back, store_kept, step_check, stepped_moved, stepped_refused}
 use Rattle.rig.proofs.rig.Rig.take_step.Goals as goal
 
 pub invariant_of-self : goal.invariant_of-self
 invariant_of-self g c =
     let old = c.args.self.now in
     let xs = seated_in old.seats in
-    let known = peak_below xs c.args.k c.in-Some.seat.now c.in-Some.ensures.lent in
+    let known = peak_below xs c.args.k c.in-Some.seat.now c.in-Some.ensures.found in
     let put = c.seat.follows.holds _ (ap is_some c.in-Some.is) in
-    (old.few, (old.heard_few, (busiest_put xs _ c.args.k _ old.heard put old.counted (omega (arith, known, old.counted)), tt)))
+    record {
+      few = old.few;
+      heard_few = old.heard_few;
+      counted = busiest_put xs _ c.args.k _ old.heard put old.counted (omega (arith, known, old.counted));
+    }
 
 pub returns-in_err-outcome : goal.returns-in_err-outcome
 returns-in_err-outcome g c =
@@ -28,7 +31,7 @@ returns-in_err-outcome g c =
     let k = c.args.k in
     let s = c.in-Some.seat.now in
     let R = meaning_of g.R.Rule in
-    let found = c.in-Some.ensures.lent in
+    let found = c.in-Some.ensures.found in
     let put = c.seat.follows.holds s (ap is_some c.in-Some.is) in
     let n = agents_are m old.heard old.crowd old.standoff ms xs k R s found c.count-agents.result c.count-agents.ensures.value in
     let wanted = c.want-want.ensures.value ∙ ap (λ a. g.R.Rule.wants a m s.agent) n in
@@ -47,17 +50,17 @@ returns-in_err-outcome g c =
 pub count_step-requires : goal.count_step-requires
 count_step-requires g c =
     let old = c.args.self.now in
-    let known = peak_below (seated_in old.seats) c.args.k c.in-Some.seat.now c.in-Some.ensures.lent in
+    let known = peak_below (seated_in old.seats) c.args.k c.in-Some.seat.now c.in-Some.ensures.found in
     record { steps = omega (arith, known, old.counted, old.heard_few); entries = omega (arith, known, old.counted, old.heard_few) }
 
-pub invariant_of-self-in-Some : goal.invariant_of-self-in-Some
-invariant_of-self-in-Some g c =
+pub invariant_of-self-in-Some-clause-counted : goal.invariant_of-self-in-Some-clause-counted
+invariant_of-self-in-Some-clause-counted g c =
     let old = c.args.self.now in
     let xs = seated_in old.seats in
-    let known = peak_below xs c.args.k c.in-Some.seat.now c.in-Some.ensures.lent in
+    let known = peak_below xs c.args.k c.in-Some.seat.now c.in-Some.ensures.found in
     let put = c.seat.follows.holds c.count_step.new.self (ap is_some c.in-Some.is) in
     let few = peak_stepped _ c.count_step.new.self old.heard c.count_step.ensures.after (omega (arith, known, old.counted)) in
-    (old.few, (omega arith, (busiest_put xs _ c.args.k c.count_step.new.self (old.heard + 1) put (omega (arith, old.counted)) few, tt)))
+    busiest_put xs _ c.args.k c.count_step.new.self (old.heard + 1) put (omega (arith, old.counted)) few
 
 pub returns-in_ok-outcome : goal.returns-in_ok-outcome
 returns-in_ok-outcome g c =
@@ -69,7 +72,7 @@ returns-in_ok-outcome g c =
     let s = c.in-Some.seat.now in
     let want = c.want-want.result in
     let R = meaning_of g.R.Rule in
-    let found = c.in-Some.ensures.lent in
+    let found = c.in-Some.ensures.found in
     let put = c.seat.follows.holds c.count_step.new.self (ap is_some c.in-Some.is) in
     let n = agents_are m old.heard old.crowd old.standoff ms xs k R s found c.count-agents.result c.count-agents.ensures.value in
     let wanted = c.want-want.ensures.value ∙ ap (λ a. g.R.Rule.wants a m s.agent) n in
@@ -92,7 +95,7 @@ returns-in_default g c =
     let ms = g.S.CellStore.marks old.store in
     let xs = seated_in old.seats in
     record {
-      value = sym (at_none old.cells xs c.args.k _ (Ok tt) c.in_default.ensures.lent);
-      after = unmoved old.cells old.heard old.crowd old.standoff ms xs c.args.k _ _ c.seat.follows.holds-at-none c.in_default.ensures.lent;
+      value = sym (at_none old.cells xs c.args.k _ (Ok tt) c.in_default.ensures.found);
+      after = unmoved old.cells old.heard old.crowd old.standoff ms xs c.args.k _ _ c.seat.follows.holds-at-none c.in_default.ensures.found;
       same = refl;
     }

@@ -8,5 +8,5 @@ returns-then-k-eq0 g c = record { value = named_none _ _ (omega arith) }
 
 pub returns : goal.returns
 returns g c = record {
-  value = lent_named c.deref.result.now c.args.k c.get.result (omega arith) c.get.ensures.lookup ∙ ap (λ xs. named xs c.args.k) c.deref.ensures.value;
+  value = lent_named (λ x. x.now) c.deref.result.now c.args.k c.get.result (omega arith) c.get.ensures.lookup ∙ ap (λ xs. named xs c.args.k) c.deref.ensures.value;
 }
