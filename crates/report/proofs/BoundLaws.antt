@@ -3,6 +3,7 @@ use Rattle.std.proofs.Common.{◌≡◌, ℕ, ◌+◌, ◌<◌, ◌≤◌, Bool,
 use Rattle.numbers.specs.First.{first_of}
 use Rattle.numbers.specs.Names.{named}
 use Rattle.numbers.proofs.FirstLaws.{first_cases}
+use Rattle.rules.specs.declared.rule.Rule.{Ghosts}
 use Rattle.model.specs.Rigs.{figures_answer}
 use Rattle.model.specs.declared.Figures.{Figures}
 use Rattle.rig.specs.Seating.{seated_in}
@@ -20,7 +21,7 @@ pub record Small (f : Figures) : Type 0 where
   pub entries : f.entries ≤ 1000000
   pub refused : f.refused ≤ 1000000
 
-module _ {S R P : Type 0} (g : Rig S R P) (k : ℕ) (f : Figures) (told : Ok f ≡ figures_answer (rig_of g) k) where
+module _ {S R P : Type 0} {r : Ghosts R P} (g : Rig S R P r) (k : ℕ) (f : Figures) (told : Ok f ≡ figures_answer (rig_of g) k) where
   small_of : (o : Option (Seat P)) → o ≡ named (seated_in g.seats) k → Small f
   small_of None e =
       let missing = figures_missing (rig_of g) k (named_map_none (seat_over g.cells) (seated_in g.seats) k e) in

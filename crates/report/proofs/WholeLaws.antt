@@ -1,5 +1,5 @@
 -- No question about an agent or a cell that is there is refused. Assumes nothing.
-use Rattle.std.proofs.Common.{ℕ, not, length, Ok, ap}
+use Rattle.std.proofs.Common.{not, length, Ok, ap}
 use Rattle.numbers.proofs.RowLaws.{within_from}
 use Rattle.refusal.specs.Checks.{◌then◌, refuse_if}
 use Rattle.refusal.specs.declared.Refusal.TheVariants.{NoSuchAgent, NoSuchCell}
