@@ -1,29 +1,26 @@
 -- From two accepted files to what their rigs answer. Assumes nothing.
-use Rattle.std.proofs.Common.{◌≡◌, ℕ, ◌-◌, ◌≤◌, List, [], length, get_or, Some, None, Ok, Err, Result, sym, refl, ap, ◌∙◌, subst, arith}
+use Rattle.std.proofs.Common.{◌≡◌, ℕ, ◌-◌, ◌≤◌, List, [], length, get_or, Some, Ok, Result, sym, ap, ◌∙◌, subst, arith}
 use Rattle.numbers.specs.Names.{named, listed}
 use Rattle.numbers.specs.Rows.{Distinct}
 use Rattle.numbers.proofs.NameLaws.{length_listed, getD_listed, named_listed}
 use Rattle.refusal.specs.Checks.{◌then◌}
 use Rattle.refusal.specs.declared.Refusal.{Refusal}
-use Rattle.plan.specs.Accepted.{Acceptable}
 use Rattle.plan.specs.Checks.{decoded, header_of}
 use Rattle.plan.specs.Plans.{Sayings, plan_at, identity_at, entry_at, entry_in, entry_named}
 use Rattle.plan.proofs.Judged.{accepts}
-use Rattle.plan.specs.declared.event.Event.{Event}
-use Rattle.cells.specs.Marks.{mark_at, name_check, read_answer}
+use Rattle.cells.specs.Marks.{mark_at}
 use Rattle.cells.specs.declared.mark.Mark.{Mark}
-use Rattle.cells.specs.declared.mark.Mark.TheVariants.{Empty, Owner, Rung}
 use Rattle.model.specs.Meanings.{Meaning}
 use Rattle.model.specs.Rigs.{World, run, cell_answer}
 use Rattle.model.specs.Loads.{blank_world, load_answer, after_load, loaded_world, seat_of}
 use Rattle.runs.proofs.Lawfulness.{Steady, Blind}
 use Rattle.runs.proofs.Views.{agent_in, agent_at, table_in, table_at}
 use Rattle.runs.proofs.Effects.{name_granted}
-use Rattle.runs.proofs.Keeping.{Sound, Fresh}
-use Rattle.runs.proofs.Freshness.{Loads, load_told}
-use Rattle.renumbering.specs.Renumbering.{Renumbers, Replaces, empty, rung, owner, Alike, RenumberingInvisible}
-use Rattle.renumbering.proofs.TwinCalls.{Same, run_same}
-use Rattle.renumbering.proofs.Renumbering.{Loaded, Renumbered, Matched, empties, rungs, owners, Unseen, unseen}
+use Rattle.runs.proofs.Keeping.{Sound}
+use Rattle.runs.proofs.Freshness.{load_told}
+use Rattle.renumbering.specs.Renumbering.{Replaces, empty, rung, owner, RenumberingInvisible}
+use Rattle.renumbering.proofs.TwinCalls.{run_same}
+use Rattle.renumbering.proofs.Renumbering.{Renumbered, Matched, empties, rungs, owners, unseen}
 use Rattle.renumbering.proofs.LoadedPlans.{plan_loaded}
 
 module _ {P : Type 0} (R : Meaning P) (S : Steady R) where

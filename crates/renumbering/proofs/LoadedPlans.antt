@@ -1,15 +1,12 @@
 -- A world loaded from a plan file has nothing heard, no figures, and tables of as many names as there are cells. Assumes nothing.
-use Rattle.std.proofs.Common.{◌≡◌, ℕ, List, [], length, Ok, Err, Result, sym, refl, ap, ◌∙◌, subst, arith}
+use Rattle.std.proofs.Common.{◌≡◌, ℕ, List, [], length, Ok, sym, ap, ◌∙◌, subst}
 use Rattle.numbers.specs.Names.{listed}
 use Rattle.numbers.proofs.NameLaws.{length_listed, getD_listed}
-use Rattle.refusal.specs.Checks.{◌then◌, Check}
-use Rattle.refusal.specs.declared.Refusal.{Refusal}
-use Rattle.plan.specs.Checks.{decoded, length_check, all_checks, header_of}
-use Rattle.plan.specs.Plans.{Sayings, plan_at, entry_at}
+use Rattle.plan.specs.Checks.{header_of}
+use Rattle.plan.specs.Plans.{plan_at, entry_at}
 use Rattle.cells.specs.declared.mark.Mark.{Mark}
 use Rattle.model.specs.Meanings.{Meaning}
-use Rattle.model.specs.Rigs.{after_check}
-use Rattle.model.specs.Loads.{blank_world, loaded_world, plan_answer, load_answer, filled, after_load}
+use Rattle.model.specs.Loads.{blank_world, load_answer, after_load}
 use Rattle.runs.proofs.Lawfulness.{Steady}
 use Rattle.runs.proofs.Keeping.{Fresh}
 use Rattle.runs.proofs.Freshness.{plan_fresh, load_told}

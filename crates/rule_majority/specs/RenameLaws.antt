@@ -7,10 +7,10 @@ use Rattle.numbers.proofs.RowLaws.{within_from}
 use Rattle.cells.specs.Marks.{lawful}
 use Rattle.cells.specs.declared.mark.Mark.{Mark}
 use Rattle.cells.specs.declared.mark.Mark.TheVariants.{Empty}
-use Rattle.tally.specs.Counts.{times, lowest, most_of_one}
+use Rattle.tally.specs.Counts.{times, lowest}
 use Rattle.rules.specs.Records.{Reply, marks, cell, done, went, own, seen_at, going, having_seen}
 use Rattle.rules.specs.Lawful.{LawfulIdentity, AllLawful, Fits, Permutes, replaced, replaced_agent, replaced_reply}
-use Rattle.rules.proofs.ReplaceLaws.{lawful_set, lawful_take, mark_replaced, all_replaced, times_replaced, lowest_replaced, most_replaced}
+use Rattle.rules.proofs.ReplaceLaws.{lawful_set, lawful_take, mark_replaced, all_replaced, times_replaced, lowest_replaced}
 use Rattle.rules.specs.declared.agent.Section.{Section}
 use Rattle.rules.specs.declared.agent.Section.TheVariants.{Idle, Asking, Holding, Leaving}
 use Rattle.rule_majority.specs.declared.phase.MajorityPhase.{MajorityPhase}
@@ -58,9 +58,6 @@ module _ (π : ℕ → ℕ) (perm : Permutes π) where
     own_name_renamed : own_name m (new a) ≡ own_name m a
     own_name_renamed = ap (λ l. lowest l (own (new a))) front ∙ lowest_replaced π perm (seen_at a m) front_lawful (own a) own_lawful
 
-    most_renamed : most_seen m (new a) ≡ most_seen m a
-    most_renamed = ap most_of_one front ∙ most_replaced π perm (seen_at a m) front_lawful
-
     empty_renamed : all_empty m (new a) ≡ all_empty m a
     empty_renamed = ap (λ t. nat_eq t m) (ap (λ l. times l Empty) front ∙ times_replaced π perm (seen_at a m) front_lawful Empty refl)
 
@@ -75,10 +72,10 @@ module _ (π : ℕ → ℕ) (perm : Permutes π) where
     verdict_renamed Hold = refl
     verdict_renamed Again = refl
 
-    decided_renamed : decided m (new a) ≡ new (decided m a)
-    decided_renamed =
+    decided_renamed : most_seen m (new a) ≡ most_seen m a → decided m (new a) ≡ new (decided m a)
+    decided_renamed most =
         ap (λ k. by_verdict (verdict k (most_seen m (new a)) m) m (new a)) own_seen_renamed
-        ∙ ap (λ t. by_verdict (verdict (own_seen m a) t m) m (new a)) most_renamed
+        ∙ ap (λ t. by_verdict (verdict (own_seen m a) t m) m (new a)) most
         ∙ verdict_renamed (verdict (own_seen m a) (most_seen m a) m)
 
     waited_renamed : waited m (new a) ≡ new (waited m a)
@@ -88,29 +85,30 @@ module _ (π : ℕ → ℕ) (perm : Permutes π) where
     all_noted : (k : Mark) → lawful k ≡ true → AllLawful (noted a k).seen
     all_noted k fits = lawful_set a.seen (a.name - 1) k all fits
 
-    pub step_renamed : (p : MajorityPhase) (r : Reply) → Fits m (want_in p a) r → step_in p m (new a) (replaced_reply π r) ≡ new (step_in p m a r)
-    step_renamed Take (marks ms) fits = refl
-    step_renamed Take (cell k) fits = refl
-    step_renamed Take done fits = refl
-    step_renamed Take (went b) fits = chosen new (nat_lt a.name m) (to a Take (a.name + 1)) (to a Scan 1)
-    step_renamed Scan (marks ms) fits = refl
-    step_renamed Scan (cell k) fits =
+    -- where the most marks of one identity stay as many
+    pub step_renamed : ((b : Record) → AllLawful b.seen → most_seen m (new b) ≡ most_seen m b) → (p : MajorityPhase) (r : Reply) → Fits m (want_in p a) r → step_in p m (new a) (replaced_reply π r) ≡ new (step_in p m a r)
+    step_renamed most Take (marks ms) fits = refl
+    step_renamed most Take (cell k) fits = refl
+    step_renamed most Take done fits = refl
+    step_renamed most Take (went b) fits = chosen new (nat_lt a.name m) (to a Take (a.name + 1)) (to a Scan 1)
+    step_renamed most Scan (marks ms) fits = refl
+    step_renamed most Scan (cell k) fits =
         ap (λ b. cond (nat_lt a.name m) (to b Scan (a.name + 1)) (decided m b)) (noted_renamed a k)
-        ∙ ap (cond (nat_lt a.name m) (to (new (noted a k)) Scan (a.name + 1))) (decided_renamed m (noted a k) good (all_noted k fits))
+        ∙ ap (cond (nat_lt a.name m) (to (new (noted a k)) Scan (a.name + 1))) (decided_renamed m (noted a k) good (all_noted k fits) (most (noted a k) (all_noted k fits)))
         ∙ chosen new (nat_lt a.name m) (to (noted a k) Scan (a.name + 1)) (decided m (noted a k))
-    step_renamed Scan done fits = refl
-    step_renamed Scan (went b) fits = refl
-    step_renamed Give (marks ms) fits = refl
-    step_renamed Give (cell k) fits = refl
-    step_renamed Give done fits = ap (give_next m) (noted_renamed a Empty) ∙ give_renamed m (noted a Empty) good (all_noted Empty refl)
-    step_renamed Give (went b) fits = refl
-    step_renamed Wait (marks ms) fits = refl
-    step_renamed Wait (cell k) fits =
+    step_renamed most Scan done fits = refl
+    step_renamed most Scan (went b) fits = refl
+    step_renamed most Give (marks ms) fits = refl
+    step_renamed most Give (cell k) fits = refl
+    step_renamed most Give done fits = ap (give_next m) (noted_renamed a Empty) ∙ give_renamed m (noted a Empty) good (all_noted Empty refl)
+    step_renamed most Give (went b) fits = refl
+    step_renamed most Wait (marks ms) fits = refl
+    step_renamed most Wait (cell k) fits =
         ap (λ b. cond (nat_lt a.name m) (to b Wait (a.name + 1)) (waited m b)) (noted_renamed a k)
         ∙ ap (cond (nat_lt a.name m) (to (new (noted a k)) Wait (a.name + 1))) (waited_renamed m (noted a k) good (all_noted k fits))
         ∙ chosen new (nat_lt a.name m) (to (noted a k) Wait (a.name + 1)) (waited m (noted a k))
-    step_renamed Wait done fits = refl
-    step_renamed Wait (went b) fits = refl
+    step_renamed most Wait done fits = refl
+    step_renamed most Wait (went b) fits = refl
 
   pub reachable_renamed : (m : ℕ) (a : Record) → Reachable m a → Reachable m (new a)
   reachable_renamed m a h = record {

@@ -1,31 +1,25 @@
 -- What one call does: one agent's record, at most one cell, and nothing else. Assumes nothing.
-use Rattle.std.proofs.Common.{◌≡◌, ℕ, zero, suc, ◌+◌, ◌-◌, ◌<◌, ◌≤◌, Bool, true, false, cond, not, ◌⊎◌, List, length, get_or, set, is_ok, Some, None, Ok, Err, Option, Result, sym, refl, ap, ◌∙◌, subst, inl, inr, ⊎_elim, arith}
+use Rattle.std.proofs.Common.{◌≡◌, ℕ, ◌-◌, ◌≤◌, Bool, true, false, cond, not, List, length, get_or, set, is_ok, Some, Ok, Result, sym, refl, ap, ◌∙◌, subst, ⊎_elim, arith}
 use Rattle.std.proofs.lemmas.List.{length-set}
 use Rattle.std.proofs.lemmas.Bool.{cases_Bool, cases_eq, not_from_true, cond-true, cond-false, true≢false, false≢true, eqb-true, eq-eqb}
-use Rattle.numbers.specs.First.{first_of}
 use Rattle.numbers.specs.Names.{named, listed}
 use Rattle.numbers.specs.Rows.{Distinct, within}
 use Rattle.numbers.proofs.FirstLaws.{none_up_to}
 use Rattle.numbers.proofs.RowLaws.{within_from}
-use Rattle.refusal.specs.Checks.{◌then◌, Check, refuse_if, refuse_at}
+use Rattle.refusal.specs.Checks.{◌then◌, refuse_if, refuse_at}
 use Rattle.refusal.specs.declared.Refusal.{Refusal}
 use Rattle.refusal.specs.declared.Refusal.TheVariants.{NoSuchCell, NoMark}
-use Rattle.plan.specs.declared.event.Event.{Event}
-use Rattle.plan.specs.declared.event.Event.TheVariants.{Request, Step, Leave}
-use Rattle.cells.specs.Marks.{lawful, same_mark, mark_at, put, name_check, mark_check, write_answer, after_write, swap_answer, says_yes, after_swap}
+use Rattle.cells.specs.Marks.{lawful, same_mark, mark_at, put, name_check, mark_check, write_answer, swap_answer, says_yes}
 use Rattle.cells.specs.declared.mark.Mark.{Mark}
 use Rattle.cells.specs.declared.mark.Mark.TheVariants.{Empty, Owner, Rung}
 use Rattle.rules.specs.Records.{Reply, marks, cell, done, went}
-use Rattle.rules.specs.Lawful.{Sized, AllLawful, Idles, Holds, Moves, Name, Proper}
+use Rattle.rules.specs.Lawful.{Idles, Holds, Moves, Name, Proper}
 use Rattle.rules.specs.declared.agent.Agent.{Agent}
-use Rattle.rules.specs.declared.agent.Section.{Section}
-use Rattle.rules.specs.declared.agent.Section.TheVariants.{Idle, Asking, Holding, Leaving}
 use Rattle.rules.specs.declared.want.Want.{Want}
 use Rattle.rules.specs.declared.want.Want.TheVariants.{Look, Read, Write, Swap}
 use Rattle.model.specs.Meanings.{Meaning}
-use Rattle.model.specs.Rigs.{Seat, Rig, World, agents, entry, served, store_after, store_check, with_agent, stepped, refused_once, wanted, serving_check, at_seat, after_check, moved, turned_away, done_by}
+use Rattle.model.specs.Rigs.{Seat, World, entry, served, store_after, store_check}
 use Rattle.runs.proofs.Views.{agent_in, agent_at, table_in, table_at, met_at, named_some, named_set_same, named_set_other}
-use Rattle.runs.proofs.Lawfulness.{Steady}
 
 -- marks that are the same are equal
 pub same_equal : (k l : Mark) → same_mark k l ≡ true → k ≡ l

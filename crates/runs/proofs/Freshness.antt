@@ -1,8 +1,8 @@
 -- What holds of a rig right after an accepted load. Assumes nothing.
-use Rattle.std.proofs.Common.{◌≡◌, ℕ, zero, suc, ◌+◌, ◌-◌, ◌*◌, ◌/◌, ◌%◌, ◌<◌, ◌≤◌, Bool, true, false, cond, not, eqb, leb, ◌⊎◌, List, [], length, get_or, is_some, is_ok, Some, None, Ok, Err, Option, Result, sym, refl, ap, ◌∙◌, subst, inl, inr, ⊎_elim, mod-lt, mul-le-mul_left, arith, MatchResult}
+use Rattle.std.proofs.Common.{◌≡◌, ℕ, suc, ◌+◌, ◌-◌, ◌*◌, ◌/◌, ◌%◌, ◌<◌, ◌≤◌, Bool, true, cond, not, eqb, leb, List, [], length, get_or, is_some, is_ok, Some, None, Ok, Err, Option, Result, sym, refl, ap, ◌∙◌, subst, ⊎_elim, mod-lt, mul-le-mul_left, arith, MatchResult}
 use native.Mathlib.Nat.{le_of_dvd, dvd_refl}
 use Rattle.std.proofs.lemmas.List.{get_or_past}
-use Rattle.std.proofs.lemmas.Bool.{cases_eq, cases_lt, cases_Bool, cases_order, not-false, eqb-true, false≢true, true≢false, cond-true, cond-false}
+use Rattle.std.proofs.lemmas.Bool.{cases_lt, cases_Bool, cases_order, not-false, eqb-true, false≢true, cond-true, cond-false}
 use Rattle.numbers.specs.Factors.{gcd, CoprimeUpTo, SmallestCommonFactor, smallest_common_factor}
 use Rattle.numbers.specs.First.{first_of}
 use Rattle.numbers.specs.Names.{named, listed}
@@ -26,11 +26,11 @@ use Rattle.rules.specs.Records.{loaded_agent}
 use Rattle.rules.specs.Lawful.{Sized}
 use Rattle.model.specs.Meanings.{Meaning}
 use Rattle.model.specs.Rigs.{Seat, World, after_check}
-use Rattle.model.specs.Loads.{blank_world, empty_check, turned, new_seat, new_world, seat_of, loaded_world, plan_answer, load_answer, filled, after_load, standoff_seat, standoff_world, standoff_answer, filled_standoff, after_standoff}
+use Rattle.model.specs.Loads.{blank_world, empty_check, turned, new_seat, new_world, loaded_world, plan_answer, load_answer, filled, after_load, standoff_world, standoff_answer, filled_standoff, after_standoff}
 use Rattle.runs.proofs.Views.{agent_in, agent_at, table_in, table_at}
 use Rattle.runs.proofs.Lawfulness.{Steady}
 use Rattle.runs.proofs.Effects.{same_equal}
-use Rattle.runs.proofs.Keeping.{acting_in, Sound, Fresh, passed}
+use Rattle.runs.proofs.Keeping.{acting_in, Fresh, passed}
 
 -- numbers
 

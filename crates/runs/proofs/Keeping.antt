@@ -1,5 +1,5 @@
 -- What every call keeps, under every lawful rule, and what holds of a freshly loaded rig. Assumes nothing.
-use Rattle.std.proofs.Common.{◌≡◌, ℕ, zero, suc, ◌+◌, ◌-◌, ◌<◌, ◌≤◌, Bool, true, false, cond, not, leb, ◌⊎◌, List, [], ◌∷◌, length, get_or, set, is_some, is_ok, Some, None, Ok, Err, Option, Result, sym, refl, ap, ◌∙◌, subst, subst₂, inl, inr, ⊎_elim, arith}
+use Rattle.std.proofs.Common.{◌≡◌, ℕ, zero, suc, ◌+◌, ◌-◌, ◌<◌, ◌≤◌, Bool, true, false, not, leb, ◌⊎◌, List, [], ◌∷◌, length, get_or, is_some, is_ok, Some, None, Ok, Err, Option, sym, refl, ap, ◌∙◌, subst, subst₂, inl, inr, ⊎_elim, arith}
 use Rattle.std.proofs.lemmas.List.{length-set, get_or_past}
 use Rattle.std.proofs.lemmas.Bool.{cases_eq, cases_lt, not-false, true≢false, false≢true, ne_eqb}
 use Rattle.numbers.specs.Names.{named, listed}
@@ -15,9 +15,9 @@ use Rattle.refusal.proofs.CheckLaws.{ok_then}
 use Rattle.plan.specs.Checks.{decoded}
 use Rattle.cells.specs.Marks.{lawful, mark_at, put}
 use Rattle.cells.specs.declared.mark.Mark.{Mark}
-use Rattle.cells.specs.declared.mark.Mark.TheVariants.{Empty, Owner, Rung}
-use Rattle.rules.specs.Records.{Reply, marks, cell, done, went, loaded_agent}
-use Rattle.rules.specs.Lawful.{Sized, AllLawful, Idles, Holds, Moves, Name, Proper, Fits}
+use Rattle.cells.specs.declared.mark.Mark.TheVariants.{Empty}
+use Rattle.rules.specs.Records.{Reply, marks, loaded_agent}
+use Rattle.rules.specs.Lawful.{Sized, AllLawful, Idles, Holds, Moves, Fits}
 use Rattle.rules.specs.declared.want.Want.{Want}
 use Rattle.rules.specs.declared.want.Want.TheVariants.{Look, Read, Write, Swap}
 use Rattle.rules.proofs.ReplaceLaws.{lawful_set, from_index}
@@ -27,7 +27,7 @@ use Rattle.rules.specs.declared.agent.Section.TheVariants.{Idle, Asking, Holding
 use Rattle.plan.specs.declared.event.Event.{Event}
 use Rattle.plan.specs.declared.event.Event.TheVariants.{Request, Step, Leave}
 use Rattle.model.specs.Meanings.{Meaning}
-use Rattle.model.specs.Rigs.{Seat, Rig, World, moved, turned_away, after, agents, done_by, with_agent, stepped as stepped-seat, served, wanted, serving_check, after_check, at_seat, agent_of, heard_once, seated, refused_once, is_idle, is_holding, is_at_rest, section_in, section_at, section_check, agent_check, hearing_check, heard_at_most}
+use Rattle.model.specs.Rigs.{Seat, Rig, World, moved, turned_away, after, done_by, with_agent, stepped as stepped-seat, served, wanted, serving_check, after_check, at_seat, agent_of, heard_once, seated, refused_once, is_idle, is_holding, is_at_rest, section_in, section_at, section_check, agent_check, hearing_check, heard_at_most}
 use Rattle.model.specs.Loads.{is_blank, empty_check, plan_answer, filled, filled_standoff}
 use Rattle.model.specs.Rounds.{given, may_not, all_may, round_hearing, moving, in_turn, after_round}
 use Rattle.model.specs.declared.Round.{Round}
@@ -35,7 +35,7 @@ use Rattle.model.specs.declared.Round.TheVariants as round
 use Rattle.model.specs.Calls.{Call, load, load_standoff, event, round, ask_section, ask_figures, ask_holder, ask_cell, after_call, play}
 use Rattle.runs.proofs.Views.{agent_in, agent_at, table_at, met_at, named_find}
 use Rattle.runs.proofs.Lawfulness.{Steady}
-use Rattle.runs.proofs.Effects.{Kept, Change, stays, asks, leaves, looks, reads, writes, swaps, misses, Effect, agent_before, agent_seated, kept_seated, granted, step_change}
+use Rattle.runs.proofs.Effects.{Change, stays, asks, leaves, looks, reads, writes, swaps, misses, Effect, agent_before, agent_seated, kept_seated, granted, step_change}
 
 -- how many agents act: all, or on a stand-off those that move together
 abbrev pub acting_in : Option ℕ → ℕ → ℕ

@@ -1,11 +1,12 @@
 -- What a lawful rule shows, of its meaning: the laws of the trait `Rule` as a record. Assumes nothing.
 use Rattle.std.proofs.Common.{◌≡◌, ℕ}
-use Rattle.rules.specs.Lawful.{Sized, LawfulIdentity, Idles, Holds, Moves, Proper, Fits, NextSection, Permutes, replaced_agent, replaced_want, replaced_reply, AskingAs, LeavingAs}
+use Rattle.rules.specs.Lawful.{Sized, LawfulIdentity, Idles, Holds, Moves, Proper, Fits, Permutes, replaced_agent, replaced_want, replaced_reply, AskingAs, LeavingAs}
 use Rattle.rules.specs.Records.{Reply, loaded_agent}
 use Rattle.rules.specs.declared.agent.Agent.{Agent}
 use Rattle.model.specs.Meanings.{Meaning, meaning_of}
 use Rattle.rules.specs.contracts.rule.Rule.TheBound.{Met}
 use Rattle.rules.specs.declared.rule.Rule.{Ghosts}
+use Rattle.std.specs.declared.clone.Clone.{Ghosts as CloneGhosts}
 use borrow.Fn.World.{World}
 use denote.RattleType.{RattleType}
 use mir.Syntax.{Dict}
@@ -31,7 +32,7 @@ pub record Blind {P : Type 0} (R : Meaning P) (S : Steady R) : Type 0 where
   pub renamedstep : (n m : ℕ) (a : Agent P) (r : Reply) (π : ℕ → ℕ) → Sized n m → S.reachable n m a → Moves a → Fits m (R.wants n m a) r → Permutes π → R.becomes n m (replaced_agent π a) (replaced_reply π r) ≡ replaced_agent π (R.becomes n m a r)
 
 -- what the laws of the trait `Rule` say of an implementation's meaning
-module _ (T U : RattleType) (G : Ghosts T.Denot U.Denot) (D : Dict) (w : World) (laws : Met w.𝓛 w.𝓜 w.𝓡 w.𝓡.env T U G D) where
+module _ (T U : RattleType) (G : Ghosts T.Denot U.Denot) (D : Dict) (C : CloneGhosts U.Denot) (E : Dict) (w : World) (laws : Met w.𝓛 w.𝓜 w.𝓡 w.𝓡.env T U G D C E) where
   abbrev pub steady_of : Steady (meaning_of G)
   steady_of = record {
     reachable = G.reachable;

@@ -1,5 +1,5 @@
 -- What the section question answers, and that the number of agents stays. Assumes nothing.
-use Rattle.std.proofs.Common.{◌≡◌, ℕ, ◌≤◌, not, List, length, Ok, Err, Result, sym, refl, ap, ◌∙◌}
+use Rattle.std.proofs.Common.{◌≡◌, ℕ, ◌≤◌, not, List, length, Ok, Result, sym, refl, ap, ◌∙◌}
 use Rattle.numbers.specs.Names.{named}
 use Rattle.numbers.proofs.RowLaws.{within_from}
 use Rattle.refusal.specs.Checks.{◌then◌, refuse_if}

@@ -1,11 +1,7 @@
 -- What a moving agent wants, the store grants. Assumes nothing.
-use Rattle.std.proofs.Common.{◌≡◌, ℕ, false, List, length, Some, Ok, sym, refl, ap, subst}
-use Rattle.numbers.specs.Names.{named}
-use Rattle.rules.specs.declared.agent.Agent.{Agent}
-use Rattle.cells.specs.declared.mark.Mark.{Mark}
+use Rattle.std.proofs.Common.{List, length, ap, subst}
 use Rattle.model.specs.Meanings.{Meaning}
-use Rattle.model.specs.Rigs.{World, Seat, wanted}
-use Rattle.model.specs.Loads.{blank_world, load_answer, after_load, standoff_answer, after_standoff}
+use Rattle.model.specs.Rigs.{World, wanted}
 use Rattle.model.specs.Calls.{Call, play}
 use Rattle.runs.specs.Serving.{Granted, AlwaysGranted}
 use Rattle.runs.proofs.Lawfulness.{Steady}

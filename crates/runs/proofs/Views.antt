@@ -1,7 +1,7 @@
 -- A world by its agents, tables and marks, and what a change of one seat leaves. Assumes nothing.
-use Rattle.std.proofs.Common.{◌≡◌, ℕ, zero, suc, ◌+◌, ◌-◌, ◌<◌, ◌≤◌, ◌⊎◌, List, [], ◌∷◌, length, get_or, set, Some, None, Option, sym, refl, ap, ◌∙◌, subst, inl, inr, ⊎_elim, arith}
+use Rattle.std.proofs.Common.{◌≡◌, ℕ, zero, suc, ◌-◌, ◌≤◌, List, [], ◌∷◌, length, get_or, set, Some, None, Option, sym, ap, ◌∙◌, ⊎_elim, arith}
 use Rattle.std.proofs.lemmas.List.{length-set, get_or-set_same, get_or-set_other}
-use Rattle.std.proofs.lemmas.Option.{slice_get-get_or, slice_get_past}
+use Rattle.std.proofs.lemmas.Option.{slice_get-get_or}
 use Rattle.std.proofs.lemmas.Bool.{cases_lt}
 use Rattle.numbers.specs.Names.{named}
 use Rattle.numbers.proofs.NameLaws.{named_zero, named_past}
@@ -10,7 +10,7 @@ use Rattle.rules.specs.declared.agent.Agent.{Agent}
 use Rattle.cells.specs.Marks.{mark_at}
 use Rattle.cells.specs.declared.mark.Mark.{Mark}
 use Rattle.model.specs.Meanings.{Meaning}
-use Rattle.model.specs.Rigs.{Seat, Rig, World, entry, agents}
+use Rattle.model.specs.Rigs.{Seat, World, entry}
 
 -- lists by names
 

@@ -6,6 +6,6 @@ use Rattle.lockstep.proofs.nobody_holds.Goals as goal
 pub returns : goal.returns
 returns g c = record {
   nobody_holds =
-      nobody_holds (meaning_of g.R.Rule) (steady_of g.row.R g.R.Phase g.R.Rule g.R.Rule-dict g.world g.met.R.Rule)
-      (blind_of g.row.R g.R.Phase g.R.Rule g.R.Rule-dict g.world g.met.R.Rule) g.met.R.ExclusiveRule.excludes;
+      nobody_holds (meaning_of g.R.Rule) (steady_of g.row.R g.row.R-Phase g.R.Rule g.R.Rule-dict g.R.Phase.Clone g.R.Phase.Clone-dict g.world g.met.R.Rule)
+      (blind_of g.row.R g.row.R-Phase g.R.Rule g.R.Rule-dict g.R.Phase.Clone g.R.Phase.Clone-dict g.world g.met.R.Rule) g.met.R.ExclusiveRule.excludes;
 }

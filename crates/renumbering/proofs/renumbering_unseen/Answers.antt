@@ -6,6 +6,6 @@ use Rattle.renumbering.proofs.renumbering_unseen.Goals as goal
 pub returns : goal.returns
 returns g c = record {
   invisible =
-      invisible (meaning_of g.R.Rule) (steady_of g.row.R g.R.Phase g.R.Rule g.R.Rule-dict g.world g.met.R.Rule)
-      (blind_of g.row.R g.R.Phase g.R.Rule g.R.Rule-dict g.world g.met.R.Rule);
+      invisible (meaning_of g.R.Rule) (steady_of g.row.R g.row.R-Phase g.R.Rule g.R.Rule-dict g.R.Phase.Clone g.R.Phase.Clone-dict g.world g.met.R.Rule)
+      (blind_of g.row.R g.row.R-Phase g.R.Rule g.R.Rule-dict g.R.Phase.Clone g.R.Phase.Clone-dict g.world g.met.R.Rule);
 }

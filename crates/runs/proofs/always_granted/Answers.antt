@@ -4,4 +4,4 @@ use Rattle.runs.proofs.Serving.{always}
 use Rattle.runs.proofs.always_granted.Goals as goal
 
 pub returns : goal.returns
-returns g c = record { always = always (meaning_of g.R.Rule) (steady_of g.row.R g.R.Phase g.R.Rule g.R.Rule-dict g.world g.met.R.Rule) }
+returns g c = record { always = always (meaning_of g.R.Rule) (steady_of g.row.R g.row.R-Phase g.R.Rule g.R.Rule-dict g.R.Phase.Clone g.R.Phase.Clone-dict g.world g.met.R.Rule) }
