@@ -1,5 +1,5 @@
 -- Words by their number. Assumes nothing.
-use Rattle.std.proofs.Common.{◌≡◌, ℕ, ◌<◌, List, [], ◌∷◌, map, length, get_or, Ok, Err, Result, refl, subst, arith}
+use Rattle.std.proofs.Common.{◌≡◌, ℕ, List, [], ◌∷◌, map, length, get_or, Err, Result, refl, subst, arith}
 use Rattle.standoffs.specs.Requests.{Reads, Asks}
 use Rattle.standoffs.specs.declared.request.Fault.{Fault}
 use Rattle.standoffs.specs.declared.request.Fault.TheVariants.{WordCount}

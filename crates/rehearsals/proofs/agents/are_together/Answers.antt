@@ -1,4 +1,4 @@
-use Rattle.std.proofs.Common.{◌≡◌, ◌+◌, not, is_some, sym, ap, ◌∙◌, arith}
+use Rattle.std.proofs.Common.{◌+◌, not, is_some, sym, ap, ◌∙◌, arith}
 use Rattle.numbers.proofs.FirstLaws.{first_up_to, none_up_to}
 use Rattle.model.specs.Rigs.{section_answer}
 use Rattle.rig.specs.Worlds.{rig_of}

@@ -1,4 +1,4 @@
-use Rattle.std.proofs.Common.{◌≡◌, is_some, sym, ap, ◌∙◌}
+use Rattle.std.proofs.Common.{is_some, sym, ap, ◌∙◌}
 use Rattle.plan.specs.Plans.{model}
 use Rattle.rehearsals.proofs.TwinLaws.{replaced_tells, owners_tested, rungs_tested}
 use Rattle.rehearsals.proofs.marks.is_replaced.Goals as goal

@@ -1,4 +1,4 @@
-use Rattle.std.proofs.Common.{◌≡◌, ◌+◌, sym, ap, ◌∙◌, arith}
+use Rattle.std.proofs.Common.{◌+◌, sym, ap, ◌∙◌, arith}
 use Rattle.numbers.proofs.FirstLaws.{first_up_to, none_up_to}
 use Rattle.plan.specs.Plans.{model, entry_named}
 use Rattle.rehearsals.specs.Twins.{is_number, entry_by}

@@ -15,7 +15,7 @@ loop-before-preserved c =
     letters_more c.as_bytes-letters.result.now c.loop-before.before c.in-Some.round (vec_items c.loop-before.rounds) (vec_items c.push.new.self)
     c.loop-before-test.true
     (sym c.in-Some.is ∙ c.round_of.ensures.value)
-    (pushed c.push.result _ _ _ _ c.in_ok-push.was c.push.ensures.items)
+    (pushed c.push.result _ _ _ _ c.in_ok-push-in-Some.was c.push.ensures.items)
     c.loop-before.invariant
 
 pub returns : goal.returns

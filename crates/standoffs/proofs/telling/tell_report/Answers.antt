@@ -1,4 +1,4 @@
-use Rattle.std.proofs.Common.{ℕ, replicate, vec_items, arith}
+use Rattle.std.proofs.Common.{ℕ, replicate, arith}
 use lib.ListN.{length-replicate}
 use Rattle.rig.specs.Worlds.{world}
 use Rattle.report.specs.Reports.{report_text}

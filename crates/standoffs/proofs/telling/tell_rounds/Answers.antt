@@ -11,8 +11,8 @@ loop-before-init g c = (refl, refl)
 
 pub loop-before-preserved : goal.loop-before-preserved
 loop-before-preserved g c = (
-  rounds_more (meaning_of g.R.Rule) c.args.given.now c.loop-before.before _ (world g.S.CellStore.marks c.loop-before.rig) (world g.S.CellStore.marks c.round_answer.new.self) _ c.loop-before-test.true c.round_answer.ensures.after c.loop-before.invariant.0,
-  lines_more (meaning_of g.R.Rule) c.args.given.now c.loop-before.before _ (world g.S.CellStore.marks c.loop-before.rig) (world g.S.CellStore.marks c.round_answer.new.self) (vec_items c.loop-before.text) (vec_items c.tell_answer.new.text) _ c.loop-before-test.true c.round_answer.ensures.after (c.in_ok-tell_answer.ensures.after ∙ ap (λ a. vec_items c.loop-before.text ++ answer_line a) c.round_answer.ensures.value) c.loop-before.invariant.1,
+  rounds_more (meaning_of g.R.Rule) c.args.given.now c.loop-before.before _ (world g.S.CellStore.marks c.loop-before.rig) (world g.S.CellStore.marks c.round-answer.new.self) _ c.loop-before-test.true c.round-answer.ensures.after c.loop-before.invariant.0,
+  lines_more (meaning_of g.R.Rule) c.args.given.now c.loop-before.before _ (world g.S.CellStore.marks c.loop-before.rig) (world g.S.CellStore.marks c.round-answer.new.self) (vec_items c.loop-before.text) (vec_items c.tell_answer.new.text) _ c.loop-before-test.true c.round-answer.ensures.after (c.in_ok-tell_answer.ensures.after ∙ ap (λ a. vec_items c.loop-before.text ++ answer_line a) c.round-answer.ensures.value) c.loop-before.invariant.1,
 )
 
 pub returns : goal.returns

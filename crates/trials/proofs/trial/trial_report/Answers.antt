@@ -3,8 +3,8 @@ use Rattle.plan.specs.Plans.{rule_asked}
 use Rattle.trials.proofs.RuleLaws.{first_picked}
 use Rattle.trials.proofs.trial.trial_report.Goals as goal
 
-pub returns-in_ok-new-3 : goal.returns-in_ok-new-3
-returns-in_ok-new-3 c =
+pub returns-in_ok-new-in_default : goal.returns-in_ok-new-in_default
+returns-in_ok-new-in_default c =
     let rule = c.rule_asked.result in
     let asked = rule_asked c.args.file.now in
     let told = c.rule_asked.ensures.value in
