@@ -5,7 +5,6 @@ use Rattle.std.proofs.lemmas.Bool.{cond-true, le-leb, ne_eqb}
 use Rattle.numbers.specs.Factors.{smallest_common_factor}
 use Rattle.numbers.specs.First.{first_of}
 use Rattle.numbers.specs.Rows.{within}
-use Rattle.numbers.proofs.FactorLaws.{smallest_tells_some}
 use Rattle.numbers.proofs.FirstLaws.{first_tells_none}
 use Rattle.numbers.proofs.NameLaws.{length_listed, getD_listed, named_listed}
 use Rattle.refusal.specs.Checks.{◌then◌, Check, refuse_if}
@@ -18,7 +17,6 @@ use Rattle.rules.specs.Records.{loaded_agent}
 use Rattle.rules.specs.Lawful.{Idles, replaced, replaced_agent}
 use Rattle.plan.specs.Checks.{decoded}
 use Rattle.plan.specs.declared.event.Event.{Event}
-use Rattle.plan.specs.declared.event.Event.TheVariants as event
 use Rattle.model.specs.Meanings.{Meaning}
 use Rattle.model.specs.Rigs.{World, after_check, agent_of, agent_check, section_at, section_check, heard_at_most, moved, turned_away, after}
 use Rattle.model.specs.Loads.{turned, empty_check, blank_world, standoff_seat, standoff_world, load_answer, standoff_answer, plan_answer, filled, filled_standoff, after_load, after_standoff}

@@ -1,7 +1,7 @@
 -- From accepted stand-off loads to what the section question answers. Assumes nothing.
-use Rattle.std.proofs.Common.{◌≡◌, ℕ, ◌-◌, ◌<◌, ◌≤◌, Bool, true, false, not, eqb, ◌⊎◌, List, length, get_or, replicate, is_some, Some, None, Ok, Err, sym, refl, ap, ◌∙◌, subst, inl, inr, ⊎_elim, arith}
+use Rattle.std.proofs.Common.{◌≡◌, ℕ, ◌-◌, ◌≤◌, Bool, not, List, length, replicate, is_some, Ok, sym, ap, ◌∙◌, subst, ⊎_elim, arith}
 use Rattle.std.proofs.lemmas.List.{length-replicate, get_or-replicate}
-use Rattle.std.proofs.lemmas.Bool.{cases_eq, cases_lt, eq-eqb, not_from_true}
+use Rattle.std.proofs.lemmas.Bool.{cases_eq, cases_lt, eq-eqb}
 use Rattle.numbers.specs.Factors.{SmallestCommonFactor, smallest_common_factor}
 use Rattle.numbers.specs.First.{first_of}
 use Rattle.numbers.proofs.FactorLaws.{smallest_some}
@@ -14,14 +14,12 @@ use Rattle.refusal.specs.declared.Refusal.TheVariants.{CellCount, CellTaken, Sta
 use Rattle.cells.specs.Marks.{same_mark, mark_at}
 use Rattle.cells.specs.declared.mark.Mark.{Mark}
 use Rattle.cells.specs.declared.mark.Mark.TheVariants.{Empty}
-use Rattle.rules.specs.declared.agent.Section.{Section}
-use Rattle.rules.specs.declared.agent.Section.TheVariants.{Idle, Holding}
+use Rattle.rules.specs.declared.agent.Section.TheVariants.{Holding}
 use Rattle.model.specs.Meanings.{Meaning}
 use Rattle.model.specs.Rigs.{World, section_answer}
 use Rattle.model.specs.Loads.{blank_world, empty_check, standoff_seat, standoff_answer, after_standoff}
 use Rattle.model.specs.Calls.{Call, play}
 use Rattle.runs.proofs.Lawfulness.{Steady, Blind}
-use Rattle.runs.proofs.Views.{agent_at}
 use Rattle.runs.proofs.Freshness.{Stands, standoff_told, standoff_fresh}
 use Rattle.runs.proofs.Questions.{section_tells, section_told, same_agents}
 use Rattle.exclusion.specs.Exclusion.{OneHolderAtMost, NoTwoHolders}
