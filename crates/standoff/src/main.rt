@@ -6,6 +6,7 @@
 use standoffs::Standoff;
 use std::env;
 use std::io::Write;
+use std::process::ExitCode;
 
 const HELP: &str = "usage: standoff RULE N M [ROUNDS]
 
@@ -46,12 +47,10 @@ fn run(rt: &HostRuntime) -> anyhow::Result<()> {
     Ok(())
 }
 
-fn main(rt: HostRuntime) -> anyhow::Result<()> {
-    match run(&rt) {
-        Ok(()) => Ok(()),
-        Err(error) => {
-            eprintln!(rt; "standoff: {error}")?;
-            Err(error)
-        }
-    }
+fn main(rt: HostRuntime) -> ExitCode {
+    let Err(error) = run(&rt) else {
+        return ExitCode::SUCCESS;
+    };
+    let _ = eprintln!(rt; "standoff: {error}");
+    ExitCode::FAILURE
 }

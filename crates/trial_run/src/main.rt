@@ -7,6 +7,7 @@ mod words;
 use std::env;
 use std::fs::File;
 use std::io::Read;
+use std::process::ExitCode;
 use trials::{MAX_REPORT, trial_report};
 use words::{Asked, HELP, VERSION};
 
@@ -36,10 +37,10 @@ fn run(rt: &HostRuntime) -> anyhow::Result<()> {
     Ok(())
 }
 
-fn main(rt: HostRuntime) -> anyhow::Result<()> {
-    let result = run(&rt);
-    if let Err(error) = &result {
-        eprintln!(rt; "trial_run: {error}")?;
-    }
-    result
+fn main(rt: HostRuntime) -> ExitCode {
+    let Err(error) = run(&rt) else {
+        return ExitCode::SUCCESS;
+    };
+    let _ = eprintln!(rt; "trial_run: {error}");
+    ExitCode::FAILURE
 }
