@@ -72,8 +72,8 @@ module _ (π : ℕ → ℕ) (perm : Permutes π) where
     verdict_renamed Hold = refl
     verdict_renamed Again = refl
 
-    decided_renamed : most_seen m (new a) ≡ most_seen m a → decided m (new a) ≡ new (decided m a)
-    decided_renamed most =
+    pub decided_where_most_stays : most_seen m (new a) ≡ most_seen m a → decided m (new a) ≡ new (decided m a)
+    decided_where_most_stays most =
         ap (λ k. by_verdict (verdict k (most_seen m (new a)) m) m (new a)) own_seen_renamed
         ∙ ap (λ t. by_verdict (verdict (own_seen m a) t m) m (new a)) most
         ∙ verdict_renamed (verdict (own_seen m a) (most_seen m a) m)
@@ -86,29 +86,29 @@ module _ (π : ℕ → ℕ) (perm : Permutes π) where
     all_noted k fits = lawful_set a.seen (a.name - 1) k all fits
 
     -- where the most marks of one identity stay as many
-    pub step_renamed : ((b : Record) → AllLawful b.seen → most_seen m (new b) ≡ most_seen m b) → (p : MajorityPhase) (r : Reply) → Fits m (want_in p a) r → step_in p m (new a) (replaced_reply π r) ≡ new (step_in p m a r)
-    step_renamed most Take (marks ms) fits = refl
-    step_renamed most Take (cell k) fits = refl
-    step_renamed most Take done fits = refl
-    step_renamed most Take (went b) fits = chosen new (nat_lt a.name m) (to a Take (a.name + 1)) (to a Scan 1)
-    step_renamed most Scan (marks ms) fits = refl
-    step_renamed most Scan (cell k) fits =
+    pub step_where_most_stays : ((b : Record) → AllLawful b.seen → most_seen m (new b) ≡ most_seen m b) → (p : MajorityPhase) (r : Reply) → Fits m (want_in p a) r → step_in p m (new a) (replaced_reply π r) ≡ new (step_in p m a r)
+    step_where_most_stays most Take (marks ms) fits = refl
+    step_where_most_stays most Take (cell k) fits = refl
+    step_where_most_stays most Take done fits = refl
+    step_where_most_stays most Take (went b) fits = chosen new (nat_lt a.name m) (to a Take (a.name + 1)) (to a Scan 1)
+    step_where_most_stays most Scan (marks ms) fits = refl
+    step_where_most_stays most Scan (cell k) fits =
         ap (λ b. cond (nat_lt a.name m) (to b Scan (a.name + 1)) (decided m b)) (noted_renamed a k)
-        ∙ ap (cond (nat_lt a.name m) (to (new (noted a k)) Scan (a.name + 1))) (decided_renamed m (noted a k) good (all_noted k fits) (most (noted a k) (all_noted k fits)))
+        ∙ ap (cond (nat_lt a.name m) (to (new (noted a k)) Scan (a.name + 1))) (decided_where_most_stays m (noted a k) good (all_noted k fits) (most (noted a k) (all_noted k fits)))
         ∙ chosen new (nat_lt a.name m) (to (noted a k) Scan (a.name + 1)) (decided m (noted a k))
-    step_renamed most Scan done fits = refl
-    step_renamed most Scan (went b) fits = refl
-    step_renamed most Give (marks ms) fits = refl
-    step_renamed most Give (cell k) fits = refl
-    step_renamed most Give done fits = ap (give_next m) (noted_renamed a Empty) ∙ give_renamed m (noted a Empty) good (all_noted Empty refl)
-    step_renamed most Give (went b) fits = refl
-    step_renamed most Wait (marks ms) fits = refl
-    step_renamed most Wait (cell k) fits =
+    step_where_most_stays most Scan done fits = refl
+    step_where_most_stays most Scan (went b) fits = refl
+    step_where_most_stays most Give (marks ms) fits = refl
+    step_where_most_stays most Give (cell k) fits = refl
+    step_where_most_stays most Give done fits = ap (give_next m) (noted_renamed a Empty) ∙ give_renamed m (noted a Empty) good (all_noted Empty refl)
+    step_where_most_stays most Give (went b) fits = refl
+    step_where_most_stays most Wait (marks ms) fits = refl
+    step_where_most_stays most Wait (cell k) fits =
         ap (λ b. cond (nat_lt a.name m) (to b Wait (a.name + 1)) (waited m b)) (noted_renamed a k)
         ∙ ap (cond (nat_lt a.name m) (to (new (noted a k)) Wait (a.name + 1))) (waited_renamed m (noted a k) good (all_noted k fits))
         ∙ chosen new (nat_lt a.name m) (to (noted a k) Wait (a.name + 1)) (waited m (noted a k))
-    step_renamed most Wait done fits = refl
-    step_renamed most Wait (went b) fits = refl
+    step_where_most_stays most Wait done fits = refl
+    step_where_most_stays most Wait (went b) fits = refl
 
   pub reachable_renamed : (m : ℕ) (a : Record) → Reachable m a → Reachable m (new a)
   reachable_renamed m a h = record {

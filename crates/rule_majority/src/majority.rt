@@ -2,7 +2,7 @@
 ghost use Rattle.rule_majority.specs.declared.phase.MajorityPhase.TheVariants.{Take};
 ghost use Rattle.rule_majority.specs.Majority.{majority_asked, majority_left, majority_wants, majority_becomes, majority_reachable};
 ghost use Rattle.rule_majority.specs.ReachLaws.{load_reachable, ask_reachable, leave_reachable, step_reachable};
-ghost use Rattle.rule_majority.specs.RenameLaws.{reachable_renamed, leave_renamed, step_renamed};
+ghost use Rattle.rule_majority.specs.RenameLaws.{reachable_renamed, leave_renamed, step_where_most_stays};
 ghost use Rattle.rules.proofs.ReplaceLaws.{lawful_take, most_replaced};
 ghost use Rattle.rules.specs.Lawful.{replaced};
 ghost use Rattle.rules.specs.Records.{seen_at};
@@ -65,7 +65,7 @@ impl Rule for Majority {
 
     ghost renamedwant = { Prim.search rules };
 
-    ghost renamedstep = { λ n m a r π sized h moves fits perm. step_renamed π perm m a h.lawful_identity h.lawful_seen (λ b all. ap most_of_one (take-map (replaced π) m b.seen) ∙ most_replaced π perm (seen_at b m) (lawful_take m b.seen all)) a.phase r fits };
+    ghost renamedstep = { λ n m a r π sized h moves fits perm. step_where_most_stays π perm m a h.lawful_identity h.lawful_seen (λ b all. ap most_of_one (take-map (replaced π) m b.seen) ∙ most_replaced π perm (seen_at b m) (lawful_take m b.seen all)) a.phase r fits };
 
     fn own_number() -> u8 {
         Self::NUMBER

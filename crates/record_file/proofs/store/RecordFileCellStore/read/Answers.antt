@@ -1,4 +1,4 @@
-use Rattle.std.proofs.Common.{◌∙◌}
+use Rattle.std.proofs.Common.{◌∙◌, arith}
 use Rattle.cells.proofs.StoreLaws.{read_accepted}
 use Rattle.record_file.specs.Records.{records}
 use Rattle.record_file.proofs.RecordLaws.{inside, room, read}
@@ -9,7 +9,8 @@ mark_at-requires c =
     let f = c.args.self.now.file.now in
     let counted = c.count.ensures.value in
     let name = c.in_ok-check_name.ensures.value in
-    record { low = (inside f c.count.result c.args.name counted name).0; room = room f c.count.result c.args.name counted name }
+    let first = (inside f c.count.result c.args.name counted name).0 in
+    record { low = omega (arith, first); room = omega (arith, first, room f c.count.result c.args.name counted name) }
 
 pub returns : goal.returns
 returns c =
