@@ -3,8 +3,8 @@ use crate::files::{Edit, LOOSE, TIGHT, edited, padded, sized};
 use plan::{Event, Plan};
 use refusal::Layer;
 use std::alloc::Global;
-use std::process::Abort;
 use std::test::Fail;
+use test_checks::check_eq;
 
 // Number and places of the refusal; zeros where the file is accepted.
 type Verdict = (u8, usize, usize);
@@ -12,59 +12,56 @@ type Verdict = (u8, usize, usize);
 const ACCEPTED: Verdict = (0, 0, 0);
 
 // The decoder gives this verdict, and a refusal comes from the layer that its number belongs to.
-fn gives(rt: &impl Abort, file: &[u8], rule: u8, expected: Verdict) -> Result<(), Fail> {
+fn gives(file: &[u8], rule: u8, expected: Verdict) -> Result<(), Fail> {
     match Plan::decode(file, rule) {
-        Ok(_) => {
-            assert_eq!(rt; ACCEPTED, expected);
-            Ok(())
-        },
+        Ok(_) => check_eq(ACCEPTED, expected),
         Err(refusal) => {
             let number = refusal.number();
             let (first, second) = refusal.places();
-            assert_eq!(rt; (number, first, second), expected);
+            check_eq((number, first, second), expected)?;
             let layer = if number < 7 { Layer::File } else { Layer::Plan };
-            assert_eq!(rt; refusal.layer(), layer);
-            Ok(())
+            check_eq(refusal.layer(), layer)
         }
     }
 }
 
 // Each edit of a file gives its verdict.
 fn edits_give<const N: usize>(
-    rt: &impl Abort,
     base: [u8; N],
     rule: u8,
     cases: &[(&[Edit], Verdict)],
 ) -> Result<(), Fail> {
     for (edits, expected) in cases {
-        gives(rt, &edited(base, edits), rule, *expected)?;
+        gives(&edited(base, edits), rule, *expected)?;
     }
     Ok(())
 }
 
 // A file of each number of agents and of cells gives its verdict.
-fn sizes_give(rt: &impl Abort, heap: Global, cases: &[(u8, u8, Verdict)]) -> Result<(), Fail> {
+fn sizes_give(heap: Global, cases: &[(u8, u8, Verdict)]) -> Result<(), Fail> {
     for (agents, cells, expected) in cases {
-        gives(rt, &sized(heap, *agents, *cells)?, 1, *expected)?;
+        gives(&sized(heap, *agents, *cells)?, 1, *expected)?;
     }
     Ok(())
 }
 
-fn identities_are(rt: &impl Abort, plan: &Plan<'_>, cases: &[(usize, Option<u16>)]) {
+fn identities_are(plan: &Plan<'_>, cases: &[(usize, Option<u16>)]) -> Result<(), Fail> {
     for (agent, expected) in cases {
-        assert_eq!(rt; plan.identity(*agent), *expected);
+        check_eq(plan.identity(*agent), *expected)?;
     }
+    Ok(())
 }
 
 // The entries at agents and local names.
-fn entries_are(rt: &impl Abort, plan: &Plan<'_>, cases: &[((usize, usize), Option<u8>)]) {
+fn entries_are(plan: &Plan<'_>, cases: &[((usize, usize), Option<u8>)]) -> Result<(), Fail> {
     for ((agent, name), expected) in cases {
-        assert_eq!(rt; plan.table_entry(*agent, *name), *expected);
+        check_eq(plan.table_entry(*agent, *name), *expected)?;
     }
+    Ok(())
 }
 
 // The events with their kind and agent as a file has them.
-fn events_are(rt: &impl Abort, plan: &Plan<'_>, cases: &[(usize, Option<(u8, usize)>)]) {
+fn events_are(plan: &Plan<'_>, cases: &[(usize, Option<(u8, usize)>)]) -> Result<(), Fail> {
     for (index, expected) in cases {
         let event = match plan.event(*index) {
             None => None,
@@ -72,31 +69,31 @@ fn events_are(rt: &impl Abort, plan: &Plan<'_>, cases: &[(usize, Option<(u8, usi
             Some(Event::Step(agent)) => Some((2, agent)),
             Some(Event::Leave(agent)) => Some((3, agent)),
         };
-        assert_eq!(rt; event, *expected);
+        check_eq(event, *expected)?;
     }
+    Ok(())
 }
 
 #[test]
 fn lengths(rt: HostRuntime) -> Result<(), Fail> {
-    gives(&rt, &[], 1, (1, 0, 0))?;
-    gives(&rt, &TIGHT[..11], 1, (1, 0, 0))?;
-    gives(&rt, &TIGHT[..12], 1, (7, 1, 0))?;
-    gives(&rt, &TIGHT[..38], 1, (7, 3, 0))?;
+    gives(&[], 1, (1, 0, 0))?;
+    gives(&TIGHT[..11], 1, (1, 0, 0))?;
+    gives(&TIGHT[..12], 1, (7, 1, 0))?;
+    gives(&TIGHT[..38], 1, (7, 3, 0))?;
     let other_version = edited(TIGHT, &[(0, 2)]);
-    gives(&rt, &other_version[..11], 1, (1, 0, 0))?;
-    gives(&rt, &other_version[..12], 1, (2, 0, 0))?;
+    gives(&other_version[..11], 1, (1, 0, 0))?;
+    gives(&other_version[..12], 1, (2, 0, 0))?;
     let longest = padded(rt.alloc(), &TIGHT, 65_535)?;
-    gives(&rt, &longest, 1, ACCEPTED)?;
+    gives(&longest, 1, ACCEPTED)?;
     let too_long = padded(rt.alloc(), &other_version, 65_536)?;
-    gives(&rt, &too_long, 1, (1, 0, 0))
+    gives(&too_long, 1, (1, 0, 0))
 }
 
 #[test]
-fn versions_and_rules(rt: HostRuntime) -> Result<(), Fail> {
-    gives(&rt, &TIGHT, 2, (3, 0, 0))?;
-    gives(&rt, &LOOSE, 3, ACCEPTED)?;
+fn versions_and_rules() -> Result<(), Fail> {
+    gives(&TIGHT, 2, (3, 0, 0))?;
+    gives(&LOOSE, 3, ACCEPTED)?;
     edits_give(
-        &rt,
         TIGHT,
         1,
         &[
@@ -114,7 +111,6 @@ fn versions_and_rules(rt: HostRuntime) -> Result<(), Fail> {
 #[test]
 fn sizes(rt: HostRuntime) -> Result<(), Fail> {
     sizes_give(
-        &rt,
         rt.alloc(),
         &[
             (0, 5, (4, 0, 0)),
@@ -154,9 +150,8 @@ fn sizes(rt: HostRuntime) -> Result<(), Fail> {
 }
 
 #[test]
-fn sizes_come_before_parts(rt: HostRuntime) -> Result<(), Fail> {
+fn sizes_come_before_parts() -> Result<(), Fail> {
     edits_give(
-        &rt,
         TIGHT,
         1,
         &[
@@ -168,9 +163,8 @@ fn sizes_come_before_parts(rt: HostRuntime) -> Result<(), Fail> {
 }
 
 #[test]
-fn parts_inside(rt: HostRuntime) -> Result<(), Fail> {
+fn parts_inside() -> Result<(), Fail> {
     edits_give(
-        &rt,
         TIGHT,
         1,
         &[
@@ -198,9 +192,8 @@ fn parts_inside(rt: HostRuntime) -> Result<(), Fail> {
 }
 
 #[test]
-fn parts_apart(rt: HostRuntime) -> Result<(), Fail> {
+fn parts_apart() -> Result<(), Fail> {
     edits_give(
-        &rt,
         TIGHT,
         1,
         &[
@@ -218,7 +211,6 @@ fn parts_apart(rt: HostRuntime) -> Result<(), Fail> {
     )?;
     // Parts that touch are apart: what is refused there is what they hold.
     edits_give(
-        &rt,
         LOOSE,
         3,
         &[
@@ -237,9 +229,8 @@ fn parts_apart(rt: HostRuntime) -> Result<(), Fail> {
 }
 
 #[test]
-fn no_events(rt: HostRuntime) -> Result<(), Fail> {
+fn no_events() -> Result<(), Fail> {
     edits_give(
-        &rt,
         TIGHT,
         1,
         &[
@@ -259,9 +250,8 @@ fn no_events(rt: HostRuntime) -> Result<(), Fail> {
 }
 
 #[test]
-fn identities(rt: HostRuntime) -> Result<(), Fail> {
+fn identities() -> Result<(), Fail> {
     edits_give(
-        &rt,
         TIGHT,
         1,
         &[
@@ -284,9 +274,8 @@ fn identities(rt: HostRuntime) -> Result<(), Fail> {
 }
 
 #[test]
-fn tables(rt: HostRuntime) -> Result<(), Fail> {
+fn tables() -> Result<(), Fail> {
     edits_give(
-        &rt,
         TIGHT,
         1,
         &[
@@ -311,9 +300,8 @@ fn tables(rt: HostRuntime) -> Result<(), Fail> {
 }
 
 #[test]
-fn events(rt: HostRuntime) -> Result<(), Fail> {
+fn events() -> Result<(), Fail> {
     edits_give(
-        &rt,
         TIGHT,
         1,
         &[
@@ -333,11 +321,10 @@ fn events(rt: HostRuntime) -> Result<(), Fail> {
 }
 
 #[test]
-fn answers(rt: HostRuntime) -> Result<(), Fail> {
+fn answers() -> Result<(), Fail> {
     let plan = Plan::decode(&TIGHT, 1)?;
-    assert_eq!(rt; (plan.rule(), plan.agents(), plan.cells()), (1, 3, 5));
+    check_eq((plan.rule(), plan.agents(), plan.cells()), (1, 3, 5))?;
     identities_are(
-        &rt,
         &plan,
         &[
             (0, None),
@@ -346,9 +333,8 @@ fn answers(rt: HostRuntime) -> Result<(), Fail> {
             (3, Some(65_535)),
             (4, None),
         ],
-    );
+    )?;
     entries_are(
-        &rt,
         &plan,
         &[
             ((0, 1), None),
@@ -362,10 +348,9 @@ fn answers(rt: HostRuntime) -> Result<(), Fail> {
             ((3, 6), None),
             ((4, 1), None),
         ],
-    );
-    assert_eq!(rt; plan.event_count(), 3);
+    )?;
+    check_eq(plan.event_count(), 3)?;
     events_are(
-        &rt,
         &plan,
         &[
             (0, None),
@@ -374,24 +359,20 @@ fn answers(rt: HostRuntime) -> Result<(), Fail> {
             (3, Some((3, 2))),
             (4, None),
         ],
-    );
-    Ok(())
+    )
 }
 
 #[test]
-fn answers_from_any_order(rt: HostRuntime) -> Result<(), Fail> {
+fn answers_from_any_order() -> Result<(), Fail> {
     let plan = Plan::decode(&LOOSE, 3)?;
-    assert_eq!(rt; (plan.rule(), plan.agents(), plan.cells()), (3, 3, 5));
-    identities_are(&rt, &plan, &[(1, Some(258)), (2, Some(3)), (3, Some(772))]);
+    check_eq((plan.rule(), plan.agents(), plan.cells()), (3, 3, 5))?;
+    identities_are(&plan, &[(1, Some(258)), (2, Some(3)), (3, Some(772))])?;
     entries_are(
-        &rt,
         &plan,
         &[((1, 1), Some(3)), ((2, 3), Some(1)), ((3, 5), Some(5))],
-    );
+    )?;
     events_are(
-        &rt,
         &plan,
         &[(1, Some((2, 3))), (2, Some((3, 2))), (3, Some((1, 1)))],
-    );
-    Ok(())
+    )
 }

@@ -6,6 +6,7 @@ use rig::{Rig, Seats};
 use rule_read_write::ReadWrite;
 use std::alloc::{AllocError, Global};
 use std::test::Fail;
+use test_checks::{check, check_eq};
 
 // How many bytes the report of a blank rig has.
 const LENGTH: usize = 41;
@@ -22,28 +23,25 @@ fn report_blank(heap: Global, buffer: &mut [u8]) -> Result<Result<usize, Refusal
 #[test]
 fn long_buffer(rt: HostRuntime) -> Result<(), Fail> {
     let mut buffer = [7; MAX_REPORT];
-    assert_eq!(rt; report_blank(rt.alloc(), &mut buffer)?, Ok(LENGTH));
-    assert!(rt; &buffer[0..LENGTH] == report_of_blank());
-    assert_eq!(rt; buffer[LENGTH], 7);
-    Ok(())
+    check_eq(report_blank(rt.alloc(), &mut buffer)?, Ok(LENGTH))?;
+    check(&buffer[0..LENGTH] == report_of_blank())?;
+    check_eq(buffer[LENGTH], 7)
 }
 
 #[test]
 fn exact_buffer(rt: HostRuntime) -> Result<(), Fail> {
     let mut buffer = [7; LENGTH];
-    assert_eq!(rt; report_blank(rt.alloc(), &mut buffer)?, Ok(LENGTH));
-    assert!(rt; &buffer[0..LENGTH] == report_of_blank());
-    Ok(())
+    check_eq(report_blank(rt.alloc(), &mut buffer)?, Ok(LENGTH))?;
+    check(&buffer[0..LENGTH] == report_of_blank())
 }
 
 #[test]
 fn short_buffer(rt: HostRuntime) -> Result<(), Fail> {
     let mut buffer = [7; LENGTH - 1];
-    assert_eq!(rt;
+    check_eq(
         report_blank(rt.alloc(), &mut buffer)?,
-        Err(Refusal::BufferTooShort)
-    );
-    assert_eq!(rt; buffer[0], 7);
-    assert_eq!(rt; buffer[LENGTH - 2], 7);
-    Ok(())
+        Err(Refusal::BufferTooShort),
+    )?;
+    check_eq(buffer[0], 7)?;
+    check_eq(buffer[LENGTH - 2], 7)
 }

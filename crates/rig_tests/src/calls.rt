@@ -88,20 +88,20 @@ const OWN_TABLE: &[Line] = &[
 
 #[test]
 fn blank_rig(rt: HostRuntime) -> Result<(), Fail> {
-    blank_follows(&rt, rt.alloc(), MarkTable::new(3), BLANK)
+    blank_follows(rt.alloc(), MarkTable::new(3), BLANK)
 }
 
 #[test]
 fn counted_refusals(rt: HostRuntime) -> Result<(), Fail> {
-    blank_follows(&rt, rt.alloc(), MarkTable::new(3), REFUSED)
+    blank_follows(rt.alloc(), MarkTable::new(3), REFUSED)
 }
 
 #[test]
 fn whole_turn(rt: HostRuntime) -> Result<(), Fail> {
-    blank_follows(&rt, rt.alloc(), MarkTable::new(3), WHOLE_TURN)
+    blank_follows(rt.alloc(), MarkTable::new(3), WHOLE_TURN)
 }
 
 #[test]
 fn own_table(rt: HostRuntime) -> Result<(), Fail> {
-    blank_follows(&rt, rt.alloc(), MarkTable::new(3), OWN_TABLE)
+    blank_follows(rt.alloc(), MarkTable::new(3), OWN_TABLE)
 }

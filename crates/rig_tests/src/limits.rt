@@ -60,16 +60,16 @@ const ROUND_TOO_MANY: &[Line] = &[
 
 #[test]
 fn last_call(rt: HostRuntime) -> Result<(), Fail> {
-    blank_follows(&rt, rt.alloc(), MarkTable::new(3), LAST_CALL)?;
-    blank_follows(&rt, rt.alloc(), MarkTable::new(3), LAST_REFUSAL)
+    blank_follows(rt.alloc(), MarkTable::new(3), LAST_CALL)?;
+    blank_follows(rt.alloc(), MarkTable::new(3), LAST_REFUSAL)
 }
 
 #[test]
 fn last_round(rt: HostRuntime) -> Result<(), Fail> {
-    blank_follows(&rt, rt.alloc(), MarkTable::new(4), LAST_ROUND)
+    blank_follows(rt.alloc(), MarkTable::new(4), LAST_ROUND)
 }
 
 #[test]
 fn round_too_many(rt: HostRuntime) -> Result<(), Fail> {
-    blank_follows(&rt, rt.alloc(), MarkTable::new(9), ROUND_TOO_MANY)
+    blank_follows(rt.alloc(), MarkTable::new(9), ROUND_TOO_MANY)
 }

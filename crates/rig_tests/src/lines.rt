@@ -5,8 +5,8 @@ use model::Round;
 use plan::Event;
 use refusal::Refusal;
 use rules::{Rule, Section};
-use std::process::Abort;
 use std::test::Fail;
+use test_checks::check_eq;
 
 // A call of a rig, or a question.
 #[derive(Clone, Copy)]
@@ -94,46 +94,30 @@ fn figures(rig: &Plain, agent: usize) -> (u32, u32, u32, u32) {
     }
 }
 
-fn holds(rt: &impl Abort, rig: &mut Plain, line: Line) -> Result<(), Fail> {
+fn holds(rig: &mut Plain, line: Line) -> Result<(), Fail> {
     match line {
-        Line::Gives(call, expected) => {
-            assert_eq!(rt; answer(rig, call), expected);
-            Ok(())
-        },
+        Line::Gives(call, expected) => check_eq(answer(rig, call), expected),
         Line::Times(times, call) => {
             repeat(rig, times, call);
             Ok(())
         }
-        Line::Figures(agent, expected) => {
-            assert_eq!(rt; figures(rig, agent), expected);
-            Ok(())
-        },
-        Line::Section(agent, expected) => {
-            assert_eq!(rt; rig.section(agent).ok(), Some(expected));
-            Ok(())
-        },
-        Line::Holder(expected) => {
-            assert_eq!(rt; rig.holder(), expected);
-            Ok(())
-        },
-        Line::Cell(name, expected) => {
-            assert_eq!(rt; rig.cell(name).ok(), Some(expected));
-            Ok(())
-        },
+        Line::Figures(agent, expected) => check_eq(figures(rig, agent), expected),
+        Line::Section(agent, expected) => check_eq(rig.section(agent).ok(), Some(expected)),
+        Line::Holder(expected) => check_eq(rig.holder(), expected),
+        Line::Cell(name, expected) => check_eq(rig.cell(name).ok(), Some(expected)),
         Line::Sizes(agents, cells, crowd) => {
-            assert_eq!(rt;
+            check_eq(
                 (rig.agents(), rig.cells(), rig.crowd()),
-                (agents, cells, crowd)
-            );
-            Ok(())
+                (agents, cells, crowd),
+            )
         }
     }
 }
 
 // Each line holds after those before it.
-pub fn follows(rt: &impl Abort, rig: &mut Plain, lines: &[Line]) -> Result<(), Fail> {
+pub fn follows(rig: &mut Plain, lines: &[Line]) -> Result<(), Fail> {
     for line in lines {
-        holds(rt, rig, *line)?;
+        holds(rig, *line)?;
     }
     Ok(())
 }

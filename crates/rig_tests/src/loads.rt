@@ -53,22 +53,17 @@ const LARGEST: &[Line] = &[
 
 #[test]
 fn refused_standoffs(rt: HostRuntime) -> Result<(), Fail> {
-    blank_follows(&rt, rt.alloc(), taken(4), REFUSED_STANDOFFS)
+    blank_follows(rt.alloc(), taken(4), REFUSED_STANDOFFS)
 }
 
 #[test]
 fn refused_plans(rt: HostRuntime) -> Result<(), Fail> {
-    blank_follows(&rt, rt.alloc(), taken(4), REFUSED_PLANS)?;
-    blank_follows(
-        &rt,
-        rt.alloc(),
-        taken(3),
-        &[Line::Gives(Call::Plan, (21, 2))],
-    )
+    blank_follows(rt.alloc(), taken(4), REFUSED_PLANS)?;
+    blank_follows(rt.alloc(), taken(3), &[Line::Gives(Call::Plan, (21, 2))])
 }
 
 #[test]
 fn loaded_rigs(rt: HostRuntime) -> Result<(), Fail> {
-    blank_follows(&rt, rt.alloc(), MarkTable::new(3), LOADED)?;
-    blank_follows(&rt, rt.alloc(), MarkTable::new(64), LARGEST)
+    blank_follows(rt.alloc(), MarkTable::new(3), LOADED)?;
+    blank_follows(rt.alloc(), MarkTable::new(64), LARGEST)
 }

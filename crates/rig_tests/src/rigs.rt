@@ -5,7 +5,6 @@ use mark_table::MarkTable;
 use rig::{Rig, Seats};
 use rule_read_write::ReadWrite;
 use std::alloc::Global;
-use std::process::Abort;
 use std::test::Fail;
 
 pub type Plain = Rig<MarkTable, ReadWrite>;
@@ -34,15 +33,10 @@ pub fn taken(cells: usize) -> MarkTable {
 }
 
 // Whether a blank rig over a store follows the lines.
-pub fn blank_follows(
-    rt: &impl Abort,
-    heap: Global,
-    store: MarkTable,
-    lines: &[Line],
-) -> Result<(), Fail> {
+pub fn blank_follows(heap: Global, store: MarkTable, lines: &[Line]) -> Result<(), Fail> {
     let seats = Seats::new(heap)?;
     let mut rig = Rig::new(store, ReadWrite, seats);
-    let found = follows(rt, &mut rig, lines);
+    let found = follows(&mut rig, lines);
     let _ = rig.into_store();
     found
 }

@@ -47,10 +47,10 @@ const FRUITLESS: &[Line] = &[
 
 #[test]
 fn refused_rounds(rt: HostRuntime) -> Result<(), Fail> {
-    blank_follows(&rt, rt.alloc(), MarkTable::new(6), REFUSED_ROUNDS)
+    blank_follows(rt.alloc(), MarkTable::new(6), REFUSED_ROUNDS)
 }
 
 #[test]
 fn fruitless_rounds(rt: HostRuntime) -> Result<(), Fail> {
-    blank_follows(&rt, rt.alloc(), MarkTable::new(4), FRUITLESS)
+    blank_follows(rt.alloc(), MarkTable::new(4), FRUITLESS)
 }

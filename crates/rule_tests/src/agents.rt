@@ -2,7 +2,8 @@
 use cells::Mark;
 use rules::{Agent, Section};
 use std::fmt::Debug;
-use std::process::Abort;
+use std::test::Fail;
+use test_checks::check_eq;
 
 // The identity of every agent here.
 pub const ME: u16 = 7;
@@ -28,23 +29,23 @@ pub fn at<P: Copy>(section: Section, phase: P, name: usize) -> Agent<P> {
 }
 
 pub fn stands<P: PartialEq + Debug + Copy>(
-    rt: &impl Abort,
     agent: &Agent<P>,
     section: Section,
     phase: P,
     name: usize,
-) {
-    assert_eq!(rt; agent.section, section);
-    assert_eq!(rt; agent.phase, phase);
-    assert_eq!(rt; agent.name, name);
-    assert_eq!(rt; agent.identity, ME);
+) -> Result<(), Fail> {
+    check_eq(agent.section, section)?;
+    check_eq(agent.phase, phase)?;
+    check_eq(agent.name, name)?;
+    check_eq(agent.identity, ME)
 }
 
 // What was seen at the first names.
-pub fn has_seen<P: Copy>(rt: &impl Abort, agent: &Agent<P>, marks: &[Mark]) {
+pub fn has_seen<P: Copy>(agent: &Agent<P>, marks: &[Mark]) -> Result<(), Fail> {
     for (seen, mark) in agent.seen.iter().zip(marks) {
-        assert_eq!(rt; *seen, *mark);
+        check_eq(*seen, *mark)?;
     }
+    Ok(())
 }
 
 // The same agent, having seen these marks at the first names.

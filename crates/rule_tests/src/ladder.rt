@@ -3,7 +3,8 @@ use crate::agents::{NONE, OTHER, at, has_seen, having, stands};
 use cells::Mark;
 use rule_ladder::{Ladder, LadderPhase as Phase};
 use rules::{Agent, Answer, Rule, Section};
-use std::process::Abort;
+use std::test::Fail;
+use test_checks::check_eq;
 
 // An asking agent on a rung, with flags at the first names.
 fn climber(phase: Phase, name: usize, rung: u8, flags: [bool; 4]) -> Agent<Phase> {
@@ -18,11 +19,12 @@ fn climber(phase: Phase, name: usize, rung: u8, flags: [bool; 4]) -> Agent<Phase
 }
 
 // The rung, and the flags at the first names.
-fn has(rt: &impl Abort, agent: &Agent<Phase>, rung: u8, flags: [bool; 4]) {
-    assert_eq!(rt; agent.rung, rung);
+fn has(agent: &Agent<Phase>, rung: u8, flags: [bool; 4]) -> Result<(), Fail> {
+    check_eq(agent.rung, rung)?;
     for (flag, expected) in agent.flags.iter().zip(&flags) {
-        assert_eq!(rt; *flag, *expected);
+        check_eq(*flag, *expected)?;
     }
+    Ok(())
 }
 
 const FLAT: [bool; 4] = [false, false, false, false];
@@ -32,108 +34,108 @@ const ENDS: [bool; 4] = [true, false, true, false];
 const THREE: [bool; 4] = [true, true, true, false];
 
 #[test]
-fn seeks(rt: HostRuntime) {
+fn seeks() -> Result<(), Fail> {
     let mut agent = climber(Phase::Seek, 1, 0, FLAT);
     Ladder::step(2, 3, &mut agent, Answer::of_read(OTHER));
-    stands(&rt, &agent, Section::Asking, Phase::Seek, 2);
+    stands(&agent, Section::Asking, Phase::Seek, 2)?;
     let mut agent = climber(Phase::Seek, 3, 0, FLAT);
     Ladder::step(2, 3, &mut agent, Answer::of_read(NONE));
-    stands(&rt, &agent, Section::Asking, Phase::Take, 1);
-    has(&rt, &agent, 1, FLAT);
+    stands(&agent, Section::Asking, Phase::Take, 1)?;
+    has(&agent, 1, FLAT)?;
     let mut agent = having(climber(Phase::Seek, 3, 0, FLAT), &[NONE, OTHER, NONE]);
     Ladder::step(2, 3, &mut agent, Answer::of_read(NONE));
-    stands(&rt, &agent, Section::Asking, Phase::Seek, 1);
-    has(&rt, &agent, 0, FLAT);
+    stands(&agent, Section::Asking, Phase::Seek, 1)?;
+    has(&agent, 0, FLAT)
 }
 
 // After TAKE 3 on rung 1 twice the count stands against 3: here 0 and 2.
 #[test]
-fn takes(rt: HostRuntime) {
+fn takes() -> Result<(), Fail> {
     let mut agent = climber(Phase::Take, 1, 1, FLAT);
     Ladder::step(2, 3, &mut agent, Answer::of_swap(true));
-    stands(&rt, &agent, Section::Asking, Phase::Take, 2);
-    has(&rt, &agent, 1, [true, false, false, false]);
+    stands(&agent, Section::Asking, Phase::Take, 2)?;
+    has(&agent, 1, [true, false, false, false])?;
     let mut agent = climber(Phase::Take, 3, 1, FLAT);
     Ladder::step(2, 3, &mut agent, Answer::of_swap(false));
-    stands(&rt, &agent, Section::Asking, Phase::Seek, 1);
-    has(&rt, &agent, 0, FLAT);
+    stands(&agent, Section::Asking, Phase::Seek, 1)?;
+    has(&agent, 0, FLAT)?;
     let mut agent = climber(Phase::Take, 3, 1, [false, true, false, false]);
     Ladder::step(2, 3, &mut agent, Answer::of_swap(false));
-    stands(&rt, &agent, Section::Asking, Phase::Drop, 2);
-    has(&rt, &agent, 0, [false, true, false, false]);
+    stands(&agent, Section::Asking, Phase::Drop, 2)?;
+    has(&agent, 0, [false, true, false, false])
 }
 
 // Here 4 against 3, and of four cells 4 against 4.
 #[test]
-fn climbs(rt: HostRuntime) {
+fn climbs() -> Result<(), Fail> {
     let mut agent = climber(Phase::Take, 3, 1, [true, false, false, false]);
     Ladder::step(2, 3, &mut agent, Answer::of_swap(true));
-    stands(&rt, &agent, Section::Asking, Phase::Raise, 1);
-    has(&rt, &agent, 2, ENDS);
+    stands(&agent, Section::Asking, Phase::Raise, 1)?;
+    has(&agent, 2, ENDS)?;
     Ladder::step(2, 3, &mut agent, Answer::of_write());
-    stands(&rt, &agent, Section::Asking, Phase::Raise, 3);
+    stands(&agent, Section::Asking, Phase::Raise, 3)?;
     Ladder::step(2, 3, &mut agent, Answer::of_write());
-    stands(&rt, &agent, Section::Asking, Phase::Fill, 1);
+    stands(&agent, Section::Asking, Phase::Fill, 1)?;
     let mut agent = climber(Phase::Take, 4, 1, ENDS);
     Ladder::step(2, 4, &mut agent, Answer::of_swap(false));
-    stands(&rt, &agent, Section::Asking, Phase::Raise, 1);
-    has(&rt, &agent, 2, ENDS);
+    stands(&agent, Section::Asking, Phase::Raise, 1)?;
+    has(&agent, 2, ENDS)
 }
 
 #[test]
-fn fills(rt: HostRuntime) {
+fn fills() -> Result<(), Fail> {
     let mut agent = climber(Phase::Fill, 1, 2, ENDS);
     Ladder::step(2, 3, &mut agent, Answer::of_read(Mark::Rung(2)));
-    stands(&rt, &agent, Section::Asking, Phase::Fill, 2);
+    stands(&agent, Section::Asking, Phase::Fill, 2)?;
     Ladder::step(2, 3, &mut agent, Answer::of_read(Mark::Rung(1)));
-    stands(&rt, &agent, Section::Asking, Phase::Try, 2);
+    stands(&agent, Section::Asking, Phase::Try, 2)?;
     Ladder::step(2, 3, &mut agent, Answer::of_swap(false));
-    stands(&rt, &agent, Section::Asking, Phase::Fill, 2);
+    stands(&agent, Section::Asking, Phase::Fill, 2)?;
     Ladder::step(2, 3, &mut agent, Answer::of_read(NONE));
     Ladder::step(2, 3, &mut agent, Answer::of_swap(true));
-    stands(&rt, &agent, Section::Asking, Phase::Fill, 3);
-    has(&rt, &agent, 2, THREE);
+    stands(&agent, Section::Asking, Phase::Fill, 3)?;
+    has(&agent, 2, THREE)?;
     Ladder::step(2, 3, &mut agent, Answer::of_read(Mark::Rung(3)));
-    stands(&rt, &agent, Section::Holding, Phase::Seek, 1);
-    has(&rt, &agent, 2, THREE);
+    stands(&agent, Section::Holding, Phase::Seek, 1)?;
+    has(&agent, 2, THREE)
 }
 
 // On the highest rung all three cells are needed.
 #[test]
-fn fails_on_the_highest_rung(rt: HostRuntime) {
+fn fails_on_the_highest_rung() -> Result<(), Fail> {
     let mut agent = climber(Phase::Fill, 3, 2, ENDS);
     Ladder::step(2, 3, &mut agent, Answer::of_read(Mark::Rung(2)));
-    stands(&rt, &agent, Section::Asking, Phase::Drop, 1);
-    has(&rt, &agent, 0, ENDS);
+    stands(&agent, Section::Asking, Phase::Drop, 1)?;
+    has(&agent, 0, ENDS)?;
     Ladder::step(2, 3, &mut agent, Answer::of_write());
-    stands(&rt, &agent, Section::Asking, Phase::Drop, 3);
-    has(&rt, &agent, 0, [false, false, true, false]);
+    stands(&agent, Section::Asking, Phase::Drop, 3)?;
+    has(&agent, 0, [false, false, true, false])?;
     Ladder::step(2, 3, &mut agent, Answer::of_write());
-    stands(&rt, &agent, Section::Asking, Phase::Seek, 1);
-    has(&rt, &agent, 0, FLAT);
+    stands(&agent, Section::Asking, Phase::Seek, 1)?;
+    has(&agent, 0, FLAT)
 }
 
 #[test]
-fn leaves(rt: HostRuntime) {
+fn leaves() -> Result<(), Fail> {
     let mut agent = climber(Phase::Seek, 1, 2, ENDS);
     agent.section = Section::Holding;
     Ladder::leave(2, 3, &mut agent);
-    stands(&rt, &agent, Section::Leaving, Phase::Drop, 1);
-    has(&rt, &agent, 0, ENDS);
+    stands(&agent, Section::Leaving, Phase::Drop, 1)?;
+    has(&agent, 0, ENDS)?;
     Ladder::step(2, 3, &mut agent, Answer::of_write());
-    stands(&rt, &agent, Section::Leaving, Phase::Drop, 3);
+    stands(&agent, Section::Leaving, Phase::Drop, 3)?;
     Ladder::step(2, 3, &mut agent, Answer::of_write());
-    stands(&rt, &agent, Section::Idle, Phase::Seek, 1);
-    has(&rt, &agent, 0, FLAT);
+    stands(&agent, Section::Idle, Phase::Seek, 1)?;
+    has(&agent, 0, FLAT)
 }
 
 // A request drops rung and flags, and keeps what was seen.
 #[test]
-fn requests(rt: HostRuntime) {
+fn requests() -> Result<(), Fail> {
     let mut agent = having(climber(Phase::Seek, 1, 2, ENDS), &[OTHER]);
     agent.section = Section::Idle;
     Ladder::ask(2, 3, &mut agent);
-    stands(&rt, &agent, Section::Asking, Phase::Seek, 1);
-    has(&rt, &agent, 0, FLAT);
-    has_seen(&rt, &agent, &[OTHER]);
+    stands(&agent, Section::Asking, Phase::Seek, 1)?;
+    has(&agent, 0, FLAT)?;
+    has_seen(&agent, &[OTHER])
 }

@@ -3,166 +3,140 @@ use crate::agents::{NONE, OTHER, OWN, THIRD, at, has_seen, stands};
 use cells::Mark;
 use rule_read_write::{ReadWrite, ReadWritePhase as Phase};
 use rules::{Answer, Rule, Section};
-use std::process::Abort;
+use std::test::Fail;
 
 // An asking agent looks at these marks, of as many cells, and goes to a section, a phase and a name.
-fn looks(rt: &impl Abort, marks: &[Mark], section: Section, phase: Phase, name: usize) {
+fn looks(marks: &[Mark], section: Section, phase: Phase, name: usize) -> Result<(), Fail> {
     let mut agent = at(Section::Asking, Phase::Look, 1);
     ReadWrite::step(2, marks.len(), &mut agent, Answer::Marks(marks));
-    has_seen(rt, &agent, marks);
-    stands(rt, &agent, section, phase, name);
+    has_seen(&agent, marks)?;
+    stands(&agent, section, phase, name)
 }
 
 // An agent in a phase gets an answer, among three cells.
 fn steps(
-    rt: &impl Abort,
     from: (Section, Phase, usize),
     answer: Answer<'_>,
     to: (Section, Phase, usize),
-) {
+) -> Result<(), Fail> {
     let mut agent = at(from.0, from.1, from.2);
     ReadWrite::step(2, 3, &mut agent, answer);
-    stands(rt, &agent, to.0, to.1, to.2);
+    stands(&agent, to.0, to.1, to.2)
 }
 
 #[test]
-fn looks_that_hold_wait_or_put(rt: HostRuntime) {
-    looks(&rt, &[OWN, OWN, OWN], Section::Holding, Phase::Look, 1);
-    looks(&rt, &[OTHER, NONE, NONE], Section::Asking, Phase::Look, 1);
-    looks(&rt, &[OTHER, OTHER, OTHER], Section::Asking, Phase::Look, 1);
-    looks(&rt, &[NONE, NONE, NONE], Section::Asking, Phase::Put, 1);
-    looks(&rt, &[OWN, NONE, OTHER], Section::Asking, Phase::Put, 2);
-    looks(&rt, &[OTHER, OWN, NONE], Section::Asking, Phase::Put, 3);
+fn looks_that_hold_wait_or_put() -> Result<(), Fail> {
+    looks(&[OWN, OWN, OWN], Section::Holding, Phase::Look, 1)?;
+    looks(&[OTHER, NONE, NONE], Section::Asking, Phase::Look, 1)?;
+    looks(&[OTHER, OTHER, OTHER], Section::Asking, Phase::Look, 1)?;
+    looks(&[NONE, NONE, NONE], Section::Asking, Phase::Put, 1)?;
+    looks(&[OWN, NONE, OTHER], Section::Asking, Phase::Put, 2)?;
+    looks(&[OTHER, OWN, NONE], Section::Asking, Phase::Put, 3)
 }
 
 // With k own marks and d identities: k × d is 4 of 5, 4 of 4, 6 of 5, 3 of 4, and 6 of 5.
 #[test]
-fn looks_at_full_cells(rt: HostRuntime) {
+fn looks_at_full_cells() -> Result<(), Fail> {
     looks(
-        &rt,
         &[OWN, OTHER, OWN, OTHER, OTHER],
         Section::Asking,
         Phase::Read,
         1,
-    );
+    )?;
+    looks(&[OWN, OTHER, OWN, OTHER], Section::Asking, Phase::Look, 1)?;
     looks(
-        &rt,
-        &[OWN, OTHER, OWN, OTHER],
-        Section::Asking,
-        Phase::Look,
-        1,
-    );
-    looks(
-        &rt,
         &[OWN, OTHER, OWN, OTHER, OWN],
         Section::Asking,
         Phase::Look,
         1,
-    );
+    )?;
+    looks(&[OWN, OTHER, THIRD, OTHER], Section::Asking, Phase::Read, 1)?;
     looks(
-        &rt,
-        &[OWN, OTHER, THIRD, OTHER],
-        Section::Asking,
-        Phase::Read,
-        1,
-    );
-    looks(
-        &rt,
         &[OWN, OTHER, OWN, THIRD, OTHER],
         Section::Asking,
         Phase::Look,
         1,
-    );
+    )
 }
 
 #[test]
-fn puts_reads_and_clears(rt: HostRuntime) {
+fn puts_reads_and_clears() -> Result<(), Fail> {
     let asking = Section::Asking;
     steps(
-        &rt,
         (asking, Phase::Put, 1),
         Answer::of_write(),
         (asking, Phase::Look, 1),
-    );
+    )?;
     steps(
-        &rt,
         (asking, Phase::Put, 3),
         Answer::of_write(),
         (asking, Phase::Look, 1),
-    );
+    )?;
     steps(
-        &rt,
         (asking, Phase::Read, 1),
         Answer::of_read(OWN),
         (asking, Phase::Clear, 1),
-    );
+    )?;
     steps(
-        &rt,
         (asking, Phase::Read, 1),
         Answer::of_read(OTHER),
         (asking, Phase::Read, 2),
-    );
+    )?;
     steps(
-        &rt,
         (asking, Phase::Read, 3),
         Answer::of_read(OWN),
         (asking, Phase::Clear, 3),
-    );
+    )?;
     steps(
-        &rt,
         (asking, Phase::Read, 3),
         Answer::of_read(NONE),
         (asking, Phase::Look, 1),
-    );
+    )?;
     steps(
-        &rt,
         (asking, Phase::Clear, 1),
         Answer::of_write(),
         (asking, Phase::Read, 2),
-    );
+    )?;
     steps(
-        &rt,
         (asking, Phase::Clear, 3),
         Answer::of_write(),
         (asking, Phase::Look, 1),
-    );
+    )
 }
 
 #[test]
-fn leaves(rt: HostRuntime) {
+fn leaves() -> Result<(), Fail> {
     let leaving = Section::Leaving;
     let idle = (Section::Idle, Phase::Look, 1);
     steps(
-        &rt,
         (leaving, Phase::Read, 2),
         Answer::of_read(NONE),
         (leaving, Phase::Read, 3),
-    );
-    steps(&rt, (leaving, Phase::Read, 3), Answer::of_read(OTHER), idle);
+    )?;
+    steps((leaving, Phase::Read, 3), Answer::of_read(OTHER), idle)?;
     steps(
-        &rt,
         (leaving, Phase::Clear, 2),
         Answer::of_write(),
         (leaving, Phase::Read, 3),
-    );
-    steps(&rt, (leaving, Phase::Clear, 3), Answer::of_write(), idle);
+    )?;
+    steps((leaving, Phase::Clear, 3), Answer::of_write(), idle)?;
     let mut agent = at(Section::Holding, Phase::Look, 1);
     ReadWrite::leave(2, 1, &mut agent);
-    stands(&rt, &agent, leaving, Phase::Read, 1);
+    stands(&agent, leaving, Phase::Read, 1)?;
     ReadWrite::step(2, 1, &mut agent, Answer::of_read(OWN));
-    stands(&rt, &agent, leaving, Phase::Clear, 1);
+    stands(&agent, leaving, Phase::Clear, 1)?;
     ReadWrite::step(2, 1, &mut agent, Answer::of_write());
-    stands(&rt, &agent, Section::Idle, Phase::Look, 1);
+    stands(&agent, Section::Idle, Phase::Look, 1)
 }
 
 // A request forgets what was seen; an answer of another kind changes nothing.
 #[test]
-fn requests(rt: HostRuntime) {
+fn requests() -> Result<(), Fail> {
     let mut agent = at(Section::Idle, Phase::Look, 1);
     agent.see(OTHER);
     ReadWrite::ask(2, 3, &mut agent);
-    has_seen(&rt, &agent, &[NONE]);
-    stands(&rt, &agent, Section::Asking, Phase::Look, 1);
+    has_seen(&agent, &[NONE])?;
+    stands(&agent, Section::Asking, Phase::Look, 1)?;
     ReadWrite::step(2, 3, &mut agent, Answer::of_swap(true));
-    stands(&rt, &agent, Section::Asking, Phase::Look, 1);
+    stands(&agent, Section::Asking, Phase::Look, 1)
 }
