@@ -5,3 +5,4 @@
 pub mod factors;
 pub mod names;
 pub mod rows;
+pub mod sizes;
