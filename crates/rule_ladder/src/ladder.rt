@@ -9,6 +9,7 @@ ghost use Rattle.std.proofs.Common.{rules};
 use crate::moves::{drop_lowest, go_on, raise_next, seek, turn};
 use crate::phase::LadderPhase;
 use cells::Mark;
+use numbers::sizes::Sizes;
 use rules::{Agent, Answer, Rule, Section, Want, front};
 use tally::lowest_flag_set;
 
@@ -71,19 +72,19 @@ impl Rule for Ladder {
         LadderPhase::Seek
     }
 
-    fn ask(_agents: usize, _cells: usize, agent: &mut Agent<LadderPhase>) {
+    fn ask(_sizes: Sizes, agent: &mut Agent<LadderPhase>) {
         agent.rung = 0;
         agent.flags = [false; 64];
         agent.go(Section::Asking, LadderPhase::Seek, 1);
     }
 
-    fn leave(_agents: usize, cells: usize, agent: &mut Agent<LadderPhase>) {
+    fn leave(sizes: Sizes, agent: &mut Agent<LadderPhase>) {
         agent.rung = 0;
-        let lowest = lowest_flag_set(front(&agent.flags, cells));
+        let lowest = lowest_flag_set(front(&agent.flags, sizes.cells));
         agent.go(Section::Leaving, LadderPhase::Drop, lowest.unwrap_or(1));
     }
 
-    fn want(_agents: usize, _cells: usize, agent: &Agent<LadderPhase>) -> Want {
+    fn want(_sizes: Sizes, agent: &Agent<LadderPhase>) -> Want {
         match agent.phase {
             LadderPhase::Seek | LadderPhase::Fill => Want::Read(agent.name),
             LadderPhase::Take => Want::Swap(agent.name, Mark::Empty, Mark::Rung(1)),
@@ -93,29 +94,29 @@ impl Rule for Ladder {
         }
     }
 
-    fn step(agents: usize, cells: usize, agent: &mut Agent<LadderPhase>, answer: Answer<'_>) {
+    fn step(sizes: Sizes, agent: &mut Agent<LadderPhase>, answer: Answer<'_>) {
         match (agent.phase, answer) {
-            (LadderPhase::Seek, Answer::Cell(mark)) => seek(cells, agent, mark),
+            (LadderPhase::Seek, Answer::Cell(mark)) => seek(sizes.cells, agent, mark),
             (LadderPhase::Take, Answer::Went(true)) => {
                 agent.flag(true);
-                go_on(agents, cells, agent, LadderPhase::Take);
+                go_on(sizes.agents, sizes.cells, agent, LadderPhase::Take);
             }
             (LadderPhase::Take, Answer::Went(false)) => {
-                go_on(agents, cells, agent, LadderPhase::Take);
+                go_on(sizes.agents, sizes.cells, agent, LadderPhase::Take);
             }
-            (LadderPhase::Raise, Answer::Done) => raise_next(cells, agent),
+            (LadderPhase::Raise, Answer::Done) => raise_next(sizes.cells, agent),
             (LadderPhase::Fill, Answer::Cell(Mark::Rung(rung))) if rung >= agent.rung => {
-                go_on(agents, cells, agent, LadderPhase::Fill);
+                go_on(sizes.agents, sizes.cells, agent, LadderPhase::Fill);
             }
             (LadderPhase::Fill, Answer::Cell(_)) => turn(agent, LadderPhase::Try),
             (LadderPhase::Try, Answer::Went(true)) => {
                 agent.flag(true);
-                go_on(agents, cells, agent, LadderPhase::Fill);
+                go_on(sizes.agents, sizes.cells, agent, LadderPhase::Fill);
             }
             (LadderPhase::Try, Answer::Went(false)) => turn(agent, LadderPhase::Fill),
             (LadderPhase::Drop, Answer::Done) => {
                 agent.flag(false);
-                drop_lowest(cells, agent);
+                drop_lowest(sizes.cells, agent);
             }
             _ => {}
         }

@@ -13,6 +13,7 @@ ghost use Rattle.tally.specs.Counts.{most_of_one};
 use crate::moves::{decide, give_next, lowest_own, wait_on};
 use crate::phase::MajorityPhase;
 use cells::Mark;
+use numbers::sizes::Sizes;
 use rules::{Agent, Answer, Rule, Section, Want};
 
 // A request takes all cells in turn, then scans them. With fewer marks than another identity the agent gives its own back
@@ -75,17 +76,17 @@ impl Rule for Majority {
         MajorityPhase::Take
     }
 
-    fn ask(_agents: usize, _cells: usize, agent: &mut Agent<MajorityPhase>) {
+    fn ask(_sizes: Sizes, agent: &mut Agent<MajorityPhase>) {
         agent.forget();
         agent.go(Section::Asking, MajorityPhase::Take, 1);
     }
 
-    fn leave(_agents: usize, cells: usize, agent: &mut Agent<MajorityPhase>) {
-        let name = lowest_own(agent, cells).unwrap_or(1);
+    fn leave(sizes: Sizes, agent: &mut Agent<MajorityPhase>) {
+        let name = lowest_own(agent, sizes.cells).unwrap_or(1);
         agent.go(Section::Leaving, MajorityPhase::Give, name);
     }
 
-    fn want(_agents: usize, _cells: usize, agent: &Agent<MajorityPhase>) -> Want {
+    fn want(_sizes: Sizes, agent: &Agent<MajorityPhase>) -> Want {
         match agent.phase {
             MajorityPhase::Take => Want::Swap(agent.name, Mark::Empty, agent.own()),
             MajorityPhase::Scan | MajorityPhase::Wait => Want::Read(agent.name),
@@ -93,33 +94,33 @@ impl Rule for Majority {
         }
     }
 
-    fn step(_agents: usize, cells: usize, agent: &mut Agent<MajorityPhase>, answer: Answer<'_>) {
+    fn step(sizes: Sizes, agent: &mut Agent<MajorityPhase>, answer: Answer<'_>) {
         match (agent.phase, answer) {
-            (MajorityPhase::Take, Answer::Went(_)) if agent.name < cells => {
+            (MajorityPhase::Take, Answer::Went(_)) if agent.name < sizes.cells => {
                 agent.go(agent.section, MajorityPhase::Take, agent.name + 1);
             }
             (MajorityPhase::Take, Answer::Went(_)) => {
                 agent.go(agent.section, MajorityPhase::Scan, 1);
             }
-            (MajorityPhase::Scan, Answer::Cell(mark)) if agent.name < cells => {
+            (MajorityPhase::Scan, Answer::Cell(mark)) if agent.name < sizes.cells => {
                 agent.see(mark);
                 agent.go(agent.section, MajorityPhase::Scan, agent.name + 1);
             }
             (MajorityPhase::Scan, Answer::Cell(mark)) => {
                 agent.see(mark);
-                decide(agent, cells);
+                decide(agent, sizes.cells);
             }
             (MajorityPhase::Give, Answer::Done) => {
                 agent.see(Mark::Empty);
-                give_next(agent, cells);
+                give_next(agent, sizes.cells);
             }
-            (MajorityPhase::Wait, Answer::Cell(mark)) if agent.name < cells => {
+            (MajorityPhase::Wait, Answer::Cell(mark)) if agent.name < sizes.cells => {
                 agent.see(mark);
                 agent.go(agent.section, MajorityPhase::Wait, agent.name + 1);
             }
             (MajorityPhase::Wait, Answer::Cell(mark)) => {
                 agent.see(mark);
-                wait_on(agent, cells);
+                wait_on(agent, sizes.cells);
             }
             _ => {}
         }

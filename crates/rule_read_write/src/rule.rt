@@ -9,6 +9,7 @@ ghost use Rattle.std.proofs.Common.{rules};
 use crate::judging::{Verdict, judge_look};
 use crate::phase::ReadWritePhase as Phase;
 use cells::Mark;
+use numbers::sizes::Sizes;
 use rules::{Agent, Answer, Rule, Section, Want};
 
 // Rule 1.
@@ -101,16 +102,16 @@ impl Rule for ReadWrite {
         FIRST
     }
 
-    fn ask(_agents: usize, _cells: usize, agent: &mut Agent<Phase>) {
+    fn ask(_sizes: Sizes, agent: &mut Agent<Phase>) {
         agent.forget();
         agent.go(Section::Asking, FIRST, 1);
     }
 
-    fn leave(_agents: usize, _cells: usize, agent: &mut Agent<Phase>) {
+    fn leave(_sizes: Sizes, agent: &mut Agent<Phase>) {
         agent.go(Section::Leaving, Phase::Read, 1);
     }
 
-    fn want(_agents: usize, _cells: usize, agent: &Agent<Phase>) -> Want {
+    fn want(_sizes: Sizes, agent: &Agent<Phase>) -> Want {
         match agent.phase {
             Phase::Look => Want::Look,
             Phase::Put => Want::Write(agent.name, agent.own()),
@@ -119,19 +120,19 @@ impl Rule for ReadWrite {
         }
     }
 
-    fn step(_agents: usize, cells: usize, agent: &mut Agent<Phase>, answer: Answer<'_>) {
+    fn step(sizes: Sizes, agent: &mut Agent<Phase>, answer: Answer<'_>) {
         let section = agent.section;
         let name = agent.name;
         match (agent.phase, answer) {
-            (Phase::Look, Answer::Marks(marks)) => look(agent, marks, cells),
+            (Phase::Look, Answer::Marks(marks)) => look(agent, marks, sizes.cells),
             (Phase::Put, Answer::Done) => agent.go(section, Phase::Look, 1),
             (Phase::Read, Answer::Cell(mark)) if mark.is(agent.own()) => agent.go(
                 section,
                 Phase::Clear,
                 name,
             ),
-            (Phase::Read, Answer::Cell(_)) => go_on(agent, cells),
-            (Phase::Clear, Answer::Done) => go_on(agent, cells),
+            (Phase::Read, Answer::Cell(_)) => go_on(agent, sizes.cells),
+            (Phase::Clear, Answer::Done) => go_on(agent, sizes.cells),
             _ => {}
         }
     }
