@@ -20,9 +20,9 @@ pub struct Ladder;
 impl Rule for Ladder {
     const NUMBER: u8 = 3;
 
-    type Phase = LadderPhase;
+    ghost NUMBER = { 3 };
 
-    ghost number = { 3 };
+    type Phase = LadderPhase;
 
     ghost loaded = { Seek };
 
@@ -63,10 +63,6 @@ impl Rule for Ladder {
     ghost renamedwant = { Prim.search rules };
 
     ghost renamedstep = { λ n m a r π size h moves good perm. becomes_other π perm n m a r h good };
-
-    fn own_number() -> u8 {
-        Self::NUMBER
-    }
 
     fn loaded_phase() -> LadderPhase {
         LadderPhase::Seek

@@ -24,9 +24,9 @@ pub struct Majority;
 impl Rule for Majority {
     const NUMBER: u8 = 2;
 
-    type Phase = MajorityPhase;
+    ghost NUMBER = { 2 };
 
-    ghost number = { 2 };
+    type Phase = MajorityPhase;
 
     ghost loaded = { Take };
 
@@ -67,10 +67,6 @@ impl Rule for Majority {
     ghost renamedwant = { Prim.search rules };
 
     ghost renamedstep = { λ n m a r π sized h moves fits perm. step_where_most_stays π perm m a h.lawful_identity h.lawful_seen (λ b all. ap most_of_one (take-map (replaced π) m b.seen) ∙ most_replaced π perm (seen_at b m) (lawful_take m b.seen all)) a.phase r fits };
-
-    fn own_number() -> u8 {
-        Self::NUMBER
-    }
 
     fn loaded_phase() -> MajorityPhase {
         MajorityPhase::Take

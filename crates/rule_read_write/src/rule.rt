@@ -50,9 +50,9 @@ fn go_on(agent: &mut Agent<Phase>, cells: usize)
 impl Rule for ReadWrite {
     const NUMBER: u8 = 1;
 
-    type Phase = Phase;
+    ghost NUMBER = { 1 };
 
-    ghost number = { 1 };
+    type Phase = Phase;
 
     ghost loaded = { Look };
 
@@ -93,10 +93,6 @@ impl Rule for ReadWrite {
     ghost renamedwant = { Prim.search rules };
 
     ghost renamedstep = { λ n m a r π sized h moves fits perm. steps_replaced n m a π h perm r fits };
-
-    fn own_number() -> u8 {
-        Self::NUMBER
-    }
 
     fn loaded_phase() -> Phase {
         FIRST

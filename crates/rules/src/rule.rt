@@ -16,9 +16,9 @@ use numbers::sizes::Sizes;
 pub trait Rule {
     const NUMBER: u8;
 
-    type Phase: Copy;
+    ghost NUMBER: { ℕ };
 
-    ghost number: { ℕ };
+    type Phase: Copy;
 
     ghost loaded: { Self.Phase };
 
@@ -31,9 +31,6 @@ pub trait Rule {
     ghost becomes: { ℕ → ℕ → Agent Self.Phase → Reply → Agent Self.Phase };
 
     ghost reachable: { ℕ → ℕ → Agent Self.Phase → Type 0 };
-
-    fn own_number() -> u8
-        ensures value { result ≡ number };
 
     fn loaded_phase() -> Self::Phase
         ensures value { result ≡ loaded };
