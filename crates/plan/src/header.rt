@@ -4,6 +4,7 @@ ghost use Rattle.plan.specs.Checks.{header_read, span_of, header_check, inside_c
 
 use crate::bytes::joined;
 use numbers::factors::smallest_common_factor;
+use numbers::sizes::Sizes;
 use refusal::{Part, Refusal};
 
 // The header's fields. Offsets count from the file's first byte.
@@ -79,7 +80,11 @@ impl Header {
         if self.cells < 2 || self.cells > 64 {
             return Err(Refusal::FileCells);
         }
-        match smallest_common_factor(usize::from(self.agents), usize::from(self.cells)) {
+        let sizes = Sizes {
+            agents: usize::from(self.agents),
+            cells: usize::from(self.cells),
+        };
+        match smallest_common_factor(sizes) {
             Some(factor) => Err(Refusal::CommonFactor { factor }),
             None => Ok(()),
         }
