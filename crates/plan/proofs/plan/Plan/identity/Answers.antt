@@ -12,5 +12,5 @@ pub returns : goal.returns
 returns c =
     let p = c.args.self.now in
     record {
-      value = ap Some c.word_at.ensures.value ∙ sym (named_in (identity_at p.header p.file.now) p.header.agents c.args.agent (rw c.agents.ensures.value at (sym c.if-not-is_name.ensures.value)));
+      value = ap Some (rw (c.draft.ensures.header, c.draft.ensures.file) at c.identity.ensures.value) ∙ sym (named_in (identity_at p.header p.file.now) p.header.agents c.args.agent (rw c.agents.ensures.value at (sym c.if-not-is_name.ensures.value)));
     }
