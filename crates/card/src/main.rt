@@ -42,7 +42,7 @@ fn agreeing<S: CellStore, T: CellStore>(one: &S, other: &T) -> usize {
     for name in 1..=one.count() {
         let here = one.read(name).unwrap_or(Mark::Empty);
         let there = other.read(name).unwrap_or(Mark::Empty);
-        if here.is(there) {
+        if here == there {
             same = same.saturating_add(1);
         }
     }
