@@ -6,11 +6,11 @@ ghost use Rattle.rule_ladder.specs.ReachLaws.{reachable_step};
 ghost use Rattle.rule_ladder.specs.RenameLaws.{reachable_other, becomes_other};
 ghost use Rattle.std.proofs.Common.{rules};
 
-use crate::moves::{drop_lowest, go_on, raise_next, seek, turn};
+use crate::moves::{drop_lowest, go_on, raise_next, seek};
 use crate::phase::LadderPhase;
 use cells::Mark;
 use numbers::sizes::Sizes;
-use rules::{Agent, Answer, Rule, Section, Want, front};
+use rules::{Agent, Answer, Rule, Section, Want};
 use tally::lowest_flag_set;
 
 // The rule: an agent takes empty cells for rung 1, and climbs as long as it has its share of the cells.
@@ -76,7 +76,7 @@ impl Rule for Ladder {
 
     fn leave(sizes: Sizes, agent: &mut Agent<LadderPhase>) {
         agent.rung = 0;
-        let lowest = lowest_flag_set(front(&agent.flags, sizes.cells));
+        let lowest = lowest_flag_set(agent.flags_at(sizes.cells));
         agent.go(Section::Leaving, LadderPhase::Drop, lowest.unwrap_or(1));
     }
 
@@ -92,27 +92,27 @@ impl Rule for Ladder {
 
     fn step(sizes: Sizes, agent: &mut Agent<LadderPhase>, answer: Answer<'_>) {
         match (agent.phase, answer) {
-            (LadderPhase::Seek, Answer::Cell(mark)) => seek(sizes.cells, agent, mark),
+            (LadderPhase::Seek, Answer::Cell(mark)) => seek(sizes, agent, mark),
             (LadderPhase::Take, Answer::Went(true)) => {
                 agent.flag(true);
-                go_on(sizes.agents, sizes.cells, agent, LadderPhase::Take);
+                go_on(sizes, agent, LadderPhase::Take);
             }
             (LadderPhase::Take, Answer::Went(false)) => {
-                go_on(sizes.agents, sizes.cells, agent, LadderPhase::Take);
+                go_on(sizes, agent, LadderPhase::Take);
             }
-            (LadderPhase::Raise, Answer::Done) => raise_next(sizes.cells, agent),
+            (LadderPhase::Raise, Answer::Done) => raise_next(sizes, agent),
             (LadderPhase::Fill, Answer::Cell(Mark::Rung(rung))) if rung >= agent.rung => {
-                go_on(sizes.agents, sizes.cells, agent, LadderPhase::Fill);
+                go_on(sizes, agent, LadderPhase::Fill);
             }
-            (LadderPhase::Fill, Answer::Cell(_)) => turn(agent, LadderPhase::Try),
+            (LadderPhase::Fill, Answer::Cell(_)) => agent.turn(LadderPhase::Try, agent.name),
             (LadderPhase::Try, Answer::Went(true)) => {
                 agent.flag(true);
-                go_on(sizes.agents, sizes.cells, agent, LadderPhase::Fill);
+                go_on(sizes, agent, LadderPhase::Fill);
             }
-            (LadderPhase::Try, Answer::Went(false)) => turn(agent, LadderPhase::Fill),
+            (LadderPhase::Try, Answer::Went(false)) => agent.turn(LadderPhase::Fill, agent.name),
             (LadderPhase::Drop, Answer::Done) => {
                 agent.flag(false);
-                drop_lowest(sizes.cells, agent);
+                drop_lowest(sizes, agent);
             }
             _ => {}
         }

@@ -78,7 +78,7 @@ impl Rule for Majority {
     }
 
     fn leave(sizes: Sizes, agent: &mut Agent<MajorityPhase>) {
-        let name = lowest_own(agent, sizes.cells).unwrap_or(1);
+        let name = lowest_own(sizes, agent).unwrap_or(1);
         agent.go(Section::Leaving, MajorityPhase::Give, name);
     }
 
@@ -93,30 +93,28 @@ impl Rule for Majority {
     fn step(sizes: Sizes, agent: &mut Agent<MajorityPhase>, answer: Answer<'_>) {
         match (agent.phase, answer) {
             (MajorityPhase::Take, Answer::Went(_)) if agent.name < sizes.cells => {
-                agent.go(agent.section, MajorityPhase::Take, agent.name + 1);
+                agent.turn(MajorityPhase::Take, agent.name + 1);
             }
-            (MajorityPhase::Take, Answer::Went(_)) => {
-                agent.go(agent.section, MajorityPhase::Scan, 1);
-            }
+            (MajorityPhase::Take, Answer::Went(_)) => agent.turn(MajorityPhase::Scan, 1),
             (MajorityPhase::Scan, Answer::Cell(mark)) if agent.name < sizes.cells => {
                 agent.see(mark);
-                agent.go(agent.section, MajorityPhase::Scan, agent.name + 1);
+                agent.turn(MajorityPhase::Scan, agent.name + 1);
             }
             (MajorityPhase::Scan, Answer::Cell(mark)) => {
                 agent.see(mark);
-                decide(agent, sizes.cells);
+                decide(sizes, agent);
             }
             (MajorityPhase::Give, Answer::Done) => {
                 agent.see(Mark::Empty);
-                give_next(agent, sizes.cells);
+                give_next(sizes, agent);
             }
             (MajorityPhase::Wait, Answer::Cell(mark)) if agent.name < sizes.cells => {
                 agent.see(mark);
-                agent.go(agent.section, MajorityPhase::Wait, agent.name + 1);
+                agent.turn(MajorityPhase::Wait, agent.name + 1);
             }
             (MajorityPhase::Wait, Answer::Cell(mark)) => {
                 agent.see(mark);
-                wait_on(agent, sizes.cells);
+                wait_on(sizes, agent);
             }
             _ => {}
         }

@@ -20,30 +20,26 @@ pub struct ReadWrite;
 const FIRST: Phase = Phase::Look;
 
 // After a look: the marks are noted and judged in the same step.
-fn look(agent: &mut Agent<Phase>, marks: &[Mark], cells: usize)
-    ensures after { agent.new ≡ looked cells agent.old marks.now }
+fn look(sizes: Sizes, agent: &mut Agent<Phase>, marks: &[Mark])
+    ensures after { agent.new ≡ looked sizes.cells agent.old marks.now }
 {
-    let section = agent.section;
-    let own = agent.own();
     agent.see_all(marks);
-    match judge_look(marks, own, cells) {
+    match judge_look(marks, agent.own(), sizes.cells) {
         Verdict::Hold => agent.go(Section::Holding, Phase::Look, 1),
-        Verdict::Again => agent.go(section, Phase::Look, 1),
-        Verdict::Put(name) => agent.go(section, Phase::Put, name),
-        Verdict::Withdraw => agent.go(section, Phase::Read, 1),
+        Verdict::Again => agent.turn(Phase::Look, 1),
+        Verdict::Put(name) => agent.turn(Phase::Put, name),
+        Verdict::Withdraw => agent.turn(Phase::Read, 1),
     }
 }
 
 // From one name to the next; behind the last an asking agent looks again, and a leaving one is idle.
-fn go_on(agent: &mut Agent<Phase>, cells: usize)
-    ensures after { agent.new ≡ onward cells agent.old }
+fn go_on(sizes: Sizes, agent: &mut Agent<Phase>)
+    ensures after { agent.new ≡ onward sizes.cells agent.old }
 {
-    let section = agent.section;
-    let name = agent.name;
-    match section {
-        _ if name < cells => agent.go(section, Phase::Read, name + 1),
+    match agent.section {
+        _ if agent.name < sizes.cells => agent.turn(Phase::Read, agent.name + 1),
         Section::Leaving => agent.go(Section::Idle, Phase::Look, 1),
-        _ => agent.go(section, Phase::Look, 1),
+        _ => agent.turn(Phase::Look, 1),
     }
 }
 
@@ -117,18 +113,14 @@ impl Rule for ReadWrite {
     }
 
     fn step(sizes: Sizes, agent: &mut Agent<Phase>, answer: Answer<'_>) {
-        let section = agent.section;
-        let name = agent.name;
         match (agent.phase, answer) {
-            (Phase::Look, Answer::Marks(marks)) => look(agent, marks, sizes.cells),
-            (Phase::Put, Answer::Done) => agent.go(section, Phase::Look, 1),
-            (Phase::Read, Answer::Cell(mark)) if mark.is(agent.own()) => agent.go(
-                section,
-                Phase::Clear,
-                name,
-            ),
-            (Phase::Read, Answer::Cell(_)) => go_on(agent, sizes.cells),
-            (Phase::Clear, Answer::Done) => go_on(agent, sizes.cells),
+            (Phase::Look, Answer::Marks(marks)) => look(sizes, agent, marks),
+            (Phase::Put, Answer::Done) => agent.turn(Phase::Look, 1),
+            (Phase::Read, Answer::Cell(mark)) if mark == agent.own() => {
+                agent.turn(Phase::Clear, agent.name);
+            }
+            (Phase::Read, Answer::Cell(_)) => go_on(sizes, agent),
+            (Phase::Clear, Answer::Done) => go_on(sizes, agent),
             _ => {}
         }
     }
