@@ -1,5 +1,5 @@
 // What a plan answers: numbers, names and events.
-ghost use Rattle.std.specs.Prelude.{◌≡◌, ◌^◌, ◌<◌, length};
+ghost use Rattle.std.specs.Prelude.{◌≡◌, ◌^◌, ◌<◌, ◌≤◌, IsSome, length};
 ghost use Rattle.numbers.specs.Names.{named};
 ghost use Rattle.plan.specs.Plans.{model, entry_named};
 
@@ -41,6 +41,7 @@ impl Plan<'_> {
     // The identity of an agent; agents count from 1.
     pub fn identity(&self, agent: usize) -> Option<u16>
         ensures value { result ≡ named (model self.now).identities agent }
+        ensures found { 1 ≤ agent → agent ≤ (model self.now).agents → IsSome result }
     {
         if !is_name(agent, self.agents()) {
             return None;
@@ -51,6 +52,10 @@ impl Plan<'_> {
     // The store's name for an agent's local name; both count from 1.
     pub fn table_entry(&self, agent: usize, name: usize) -> Option<u8>
         ensures value { result ≡ entry_named (model self.now) agent name }
+        ensures found {
+            1 ≤ agent → agent ≤ (model self.now).agents → 1 ≤ name → name ≤ (model self.now).cells →
+            IsSome result
+        }
     {
         if !is_name(agent, self.agents()) || !is_name(name, self.cells()) {
             return None;
@@ -68,6 +73,7 @@ impl Plan<'_> {
     // An event; events count from 1.
     pub fn event(&self, index: usize) -> Option<Event>
         ensures value { result ≡ named (model self.now).events index }
+        ensures found { 1 ≤ index → index ≤ length (model self.now).events → IsSome result }
     {
         if !is_name(index, self.event_count()) {
             return None;
