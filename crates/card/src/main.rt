@@ -49,8 +49,9 @@ fn agreeing<S: CellStore, T: CellStore>(one: &S, other: &T) -> usize {
 // The names backwards: the first is the last below.
 fn turned<S: CellStore + Drop>(heap: Global, store: S) -> anyhow::Result<Renumbered<S>> {
     let row: Vec<usize> = (1..=store.count()).rev().collect(heap)?;
-    Renumbered::with_row(store, row.as_slice())
-        .map_err(|refusal| anyhow!("the names backwards: {refusal}"))
+    Renumbered::with_row(store, row.as_slice()).map_err(|refusal| anyhow!(
+        "the names backwards: {refusal}"
+    ))
 }
 
 fn run(rt: &HostRuntime) -> anyhow::Result<()> {

@@ -20,7 +20,10 @@ fn names_are<S: CellStore>(store: &mut S, count: usize, past: usize) -> Result<(
     check_eq(store.count(), count)?;
     check_eq(verdict(store.read(0)), Err((17, 0, 0)))?;
     check_eq(verdict(store.read(past)), Err((17, past, 0)))?;
-    check_eq(verdict(store.write(past, Mark::Owner(0))), Err((17, past, 0)))?;
+    check_eq(
+        verdict(store.write(past, Mark::Owner(0))),
+        Err((17, past, 0)),
+    )?;
     check_eq(
         verdict(store.swap(past, Mark::Rung(0), Mark::Empty)),
         Err((17, past, 0)),
@@ -52,23 +55,11 @@ fn marks_are<S: CellStore>(store: &mut S) -> Result<(), Fail> {
 }
 
 fn swaps_are<S: CellStore>(store: &mut S) -> Result<(), Fail> {
-    check_eq(
-        store.swap(2, Mark::Empty, Mark::Owner(7))?,
-        true,
-    )?;
-    check_eq(
-        store.swap(2, Mark::Empty, Mark::Owner(8))?,
-        false,
-    )?;
-    check_eq(
-        store.swap(2, Mark::Rung(7), Mark::Owner(8))?,
-        false,
-    )?;
+    check_eq(store.swap(2, Mark::Empty, Mark::Owner(7))?, true)?;
+    check_eq(store.swap(2, Mark::Empty, Mark::Owner(8))?, false)?;
+    check_eq(store.swap(2, Mark::Rung(7), Mark::Owner(8))?, false)?;
     check_eq(store.read(2)?, Mark::Owner(7))?;
-    check_eq(
-        store.swap(2, Mark::Owner(7), Mark::Empty)?,
-        true,
-    )?;
+    check_eq(store.swap(2, Mark::Owner(7), Mark::Empty)?, true)?;
     check_eq(store.read(2)?, Mark::Empty)
 }
 

@@ -1,16 +1,16 @@
 -- Laws of records: how they are read, and what a write to one changes. Assumes nothing.
-use Rattle.std.proofs.Common.{◌≡◌, ℕ, ◌+◌, ◌*◌, ◌<◌, ◌≤◌, Bool, true, false, cond, ◌≢◌, ◌⊎◌, List, [], ◌∷◌, ◌++◌, length, get_or, take, drop, set, replicate, is_ok, Ok, sym, refl, ap, ◌∙◌, subst, inl, inr, ⊎_elim, arith, take-append-drop, length-take-le}
+use Rattle.std.proofs.Common.{◌≡◌, ℕ, ◌+◌, ◌*◌, ◌<◌, ◌≤◌, Bool, true, false, cond, ◌≢◌, ◌⊎◌, List, [], ◌∷◌, ◌++◌, length, get_or, take, drop, set, replicate, Ok, sym, refl, ap, ◌∙◌, subst, inl, inr, ⊎_elim, arith, take-append-drop, length-take-le}
 use Rattle.std.proofs.lemmas.Bool.{cond-true, cases_order}
 use Rattle.std.proofs.lemmas.List.{length-set, length-append, length-drop, length-replicate, get_or-set_same, get_or-set_other, get_or_append_left, get_or-replicate, drop_more, set_at, append_assoc}
 use lib.Seq.{drop-drop}
 use Rattle.numbers.specs.Rows.{within}
 use Rattle.numbers.specs.Names.{listed}
 use Rattle.numbers.proofs.NameLaws.{length_listed, getD_listed, listed_same, listed_set, listed_constant}
-use Rattle.cells.specs.Marks.{lawful, same_mark, name_check, mark_check, mark_at, put, write_answer, after_write, swap_answer, says_yes, after_swap}
-use Rattle.cells.proofs.StoreLaws.{accepted_name, accepted_mark, write_accepted, write_put, swap_accepted, swap_put}
+use Rattle.cells.specs.Marks.{lawful, same_mark, name_check, mark_check, mark_at, put, after_write, swap_answer, says_yes, after_swap}
+use Rattle.cells.proofs.StoreLaws.{accepted_name, accepted_mark, write_put, swap_accepted, swap_put}
 use Rattle.cells.specs.declared.mark.Mark.{Mark}
 use Rattle.cells.specs.declared.mark.Mark.TheVariants.{Empty, Owner, Rung}
-use Rattle.record_file.specs.Records.{value_of, mark_by, mark_of, encoded, four, record_at, put_record, record_count, start, records, emptied, bytes_written, bytes_swapped}
+use Rattle.record_file.specs.Records.{value_of, mark_by, mark_of, encoded, four, record_at, put_record, record_count, start, records, emptied, bytes_swapped}
 
 -- four numbers are equal one by one
 pub four_same : {a b c d e f g h : ℕ} → a ≡ e → b ≡ f → c ≡ g → d ≡ h → ◌≡◌ {A = List ℕ} (a ∷ b ∷ c ∷ d ∷ []) (e ∷ f ∷ g ∷ h ∷ [])
@@ -133,20 +133,9 @@ module _ (f : List ℕ) (n y : ℕ) (counted : n ≡ length (records f)) (name :
   pub read : record_at f (start y) ≡ mark_at (records f) y
   read = there f y inside.0 inside.1
 
-  -- all that a write says, of the bytes g afterwards
-  pub record Written (k : Mark) (g : List ℕ) : Type 0 where
-    pub value : Ok tt ≡ write_answer (records f) y k
-    pub after : records g ≡ after_write (records f) y k
-    pub bytes : g ≡ bytes_written f y k
-
-  pub written : (k : Mark) (g : List ℕ) → Ok tt ≡ mark_check k → g ≡ put_record f (start y) (encoded k) → Written k g
-  written k g good is =
-      let value = write_accepted (records f) n y counted name k good in
-      record {
-        value = value;
-        after = write_put (records f) n y counted name k (records g) good (ap records is ∙ changes f y inside.0 inside.1 k (accepted_mark k good));
-        bytes = is ∙ ap (λ a. cond (is_ok a) (put_record f (start y) (encoded k)) f) value;
-      }
+  -- the marks after a write
+  pub written : (k : Mark) (g : List ℕ) → Ok tt ≡ mark_check k → g ≡ put_record f (start y) (encoded k) → records g ≡ after_write (records f) y k
+  written k g good is = write_put (records f) n y counted name k (records g) good (ap records is ∙ changes f y inside.0 inside.1 k (accepted_mark k good))
 
   -- all that a swap says
   pub record Swapped (old new : Mark) (b : Bool) (g : List ℕ) : Type 0 where
