@@ -2,14 +2,16 @@
 
 #![tactic(auto)]
 
+mod answers;
 mod bytes;
+mod checks;
 mod decode;
+mod draft;
 mod event;
 mod header;
 mod plan;
-mod rows;
 mod rule;
 
 pub use event::Event;
 pub use plan::Plan;
-pub use rule::rule_asked;
+pub use rule::{PublishedRule, UnknownRule, rule_asked};
