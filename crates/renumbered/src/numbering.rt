@@ -36,6 +36,7 @@ impl Numbering {
     {
         let mut names = ArrayVec::new();
         for name in 1..=count as u16 {
+            // No number is cut: each is at most `count`.
             names.push(row.number_at(name) as u8);
         }
         Numbering { names }
