@@ -52,10 +52,8 @@ impl Plan<'_> {
     // The store's name for an agent's local name; both count from 1.
     pub fn table_entry(&self, agent: usize, name: usize) -> Option<u8>
         ensures value { result ≡ entry_named (model self.now) agent name }
-        ensures found {
-            1 ≤ agent → agent ≤ (model self.now).agents → 1 ≤ name → name ≤ (model self.now).cells →
-            IsSome result
-        }
+        ensures found { 1 ≤ agent → agent ≤ (model self.now).agents → 1 ≤ name → name ≤ (model self.now).cells →
+            IsSome result }
     {
         if !is_name(agent, self.agents()) || !is_name(name, self.cells()) {
             return None;
