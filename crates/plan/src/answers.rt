@@ -77,8 +77,7 @@ impl Plan<'_> {
             return None;
         }
         let draft = self.draft();
-        // No plan with an unknown kind is accepted.
-        let kind = Kind::try_from(draft.kind(index)).unwrap_or(Kind::Leave);
+        let kind = Kind::try_from(draft.kind(index)).unwrap();
         Some(Event::new(kind, usize::from(draft.agent(index))))
     }
 }

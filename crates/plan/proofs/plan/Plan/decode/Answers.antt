@@ -44,4 +44,4 @@ returns c =
 pub invariant_of-result : goal.invariant_of-result
 invariant_of-result c =
     let h = passed_in_range c.args.rule c.args.file.now c.in_ok-header.header c.in_ok-header.ensures.value (sym c.in_ok-check_all.was ∙ c.check_all.ensures.value) in
-    record { some_agents = h.some_agents; few_agents = h.few_agents; some_cells = h.some_cells; few_cells = h.few_cells }
+    record { some_agents = h.some_agents; few_agents = h.few_agents; some_cells = h.some_cells; few_cells = h.few_cells; known_kinds = h.known_kinds }
