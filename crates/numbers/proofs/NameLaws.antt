@@ -1,8 +1,10 @@
 -- Laws of lists with names from 1 on. Assumes nothing.
-use Rattle.std.proofs.Common.{◌≡◌, ℕ, zero, suc, ◌+◌, ◌-◌, ◌<◌, ◌≤◌, true, false, ◌⊎◌, List, length, get_or, set, replicate, Some, None, sym, refl, ap, ◌∙◌, subst, inl, inr, ⊎_elim, arith}
+use Rattle.std.proofs.Common.{◌≡◌, ℕ, zero, suc, ◌+◌, ◌-◌, ◌<◌, ◌≤◌, true, false, ◌⊎◌, List, ◌∷◌, length, get_or, set, drop, replicate, Some, None, sym, refl, ap, ◌∙◌, subst, inl, inr, ⊎_elim, add-one, arith}
+use Rattle.std.proofs.Math.Seq.{drop-cons}
+use Rattle.std.specs.List.{slice_get}
 use Rattle.std.proofs.lemmas.List.FromFn.{length-map-range_with_len, get_or-map-range_with_len}
 use Rattle.std.proofs.lemmas.List.{ext_get_or, length-set, length-replicate, get_or-set_same, get_or-set_other, get_or-replicate}
-use Rattle.std.proofs.lemmas.Option.{slice_get-get_or, slice_get_past}
+use Rattle.std.proofs.lemmas.Option.{slice_get-get_or, slice_get_past, slice_get_within, get_or_from_slice_get}
 use Rattle.std.proofs.lemmas.Bool.{cases_lt, cases_eq}
 use Rattle.numbers.specs.Names.{named, listed}
 use Rattle.numbers.specs.Rows.{within}
@@ -39,6 +41,14 @@ pub named_past : {A : Type 0} (xs : List A) (k : ℕ) → length xs < k → name
 unfolding named
 named_past xs zero h = refl
 named_past xs (suc k) h = slice_get_past xs k (omega arith)
+
+-- the element with a name begins what is left before it
+pub named_next : {A : Type 0} (xs : List A) (i : ℕ) (x : A) → named xs (i + 1) ≡ Some x → (i < length xs) × (drop i xs ≡ x ∷ drop (i + 1) xs)
+unfolding named
+named_next xs i x e =
+    let at : slice_get xs i ≡ Some x = rw add-one at e in
+    let inside = slice_get_within xs i x at in
+    (inside, rw add-one (drop-cons xs i x inside ∙ ap (λ y. y ∷ drop (suc i) xs) (get_or_from_slice_get xs i x x at)))
 
 pub named_listed_past : {A : Type 0} (g : ℕ → A) (n k : ℕ) → n < k → named (listed g n) k ≡ None
 named_listed_past g n k h = let long = length_listed g n in named_past (listed g n) k (omega arith)

@@ -1,4 +1,4 @@
 pub mod CheckLaws
 pub mod Faith
 pub mod Judged
-pub mod KindLaws
+pub mod EventLaws

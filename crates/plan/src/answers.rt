@@ -52,10 +52,8 @@ impl Plan<'_> {
     // The store's name for an agent's local name; both count from 1.
     pub fn table_entry(&self, agent: usize, name: usize) -> Option<u8>
         ensures value { result ≡ entry_named (model self.now) agent name }
-        ensures found {
-            1 ≤ agent → agent ≤ (model self.now).agents → 1 ≤ name → name ≤ (model self.now).cells →
-            IsSome result
-        }
+        ensures found { 1 ≤ agent → agent ≤ (model self.now).agents → 1 ≤ name → name ≤ (model self.now).cells →
+            IsSome result }
     {
         if !is_name(agent, self.agents()) || !is_name(name, self.cells()) {
             return None;
@@ -79,8 +77,7 @@ impl Plan<'_> {
             return None;
         }
         let draft = self.draft();
-        // No plan with an unknown kind is accepted.
-        let kind = Kind::try_from(draft.kind(index)).unwrap_or(Kind::Leave);
+        let kind = Kind::try_from(draft.kind(index)).unwrap();
         Some(Event::new(kind, usize::from(draft.agent(index))))
     }
 }

@@ -8,10 +8,12 @@ mod checks;
 mod decode;
 mod draft;
 mod event;
+mod events;
 mod header;
 mod plan;
 mod rule;
 
 pub use event::Event;
+pub use events::Events;
 pub use plan::Plan;
 pub use rule::{PublishedRule, UnknownRule, rule_asked};

@@ -1,5 +1,6 @@
 // An accepted plan: it borrows its file and answers in names, numbers and events.
-ghost use Rattle.std.specs.Prelude.{◌≤◌};
+ghost use Rattle.std.specs.Prelude.{ℕ, ◌+◌, ◌-◌, ◌*◌, ◌≤◌};
+ghost use Rattle.plan.specs.Bytes.{byte};
 
 use crate::header::Header;
 
@@ -11,4 +12,6 @@ pub struct Plan<'a> {
     ghost few_agents: { header.agents ≤ 16 },
     ghost some_cells: { 2 ≤ header.cells },
     ghost few_cells: { header.cells ≤ 64 },
+    ghost known_kinds: { (i : ℕ) → 1 ≤ i → i ≤ header.count →
+        (1 ≤ byte file.now (header.events + 2 * (i - 1))) × (byte file.now (header.events + 2 * (i - 1)) ≤ 3) },
 }

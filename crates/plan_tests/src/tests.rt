@@ -65,6 +65,15 @@ fn events_are(plan: &Plan<'_>, cases: &[(usize, Option<Event>)]) -> Result<(), F
     Ok(())
 }
 
+// Just these events come, in this order.
+fn events_come(plan: &Plan<'_>, expected: &[Event]) -> Result<(), Fail> {
+    let mut events = plan.events();
+    for event in expected {
+        check_eq(events.next(), Some(*event))?;
+    }
+    check_eq(events.next(), None)
+}
+
 #[test]
 fn lengths(rt: HostRuntime) -> Result<(), Fail> {
     gives(&[], 1, Err((1, 0, 0)))?;
@@ -350,7 +359,8 @@ fn answers() -> Result<(), Fail> {
             (3, Some(Event::Leave(2))),
             (4, None),
         ],
-    )
+    )?;
+    events_come(&plan, &[Event::Request(1), Event::Step(3), Event::Leave(2)])
 }
 
 #[test]
@@ -364,6 +374,10 @@ fn answers_from_any_order() -> Result<(), Fail> {
     )?;
     events_are(
         &plan,
-        &[(1, Some(Event::Step(3))), (2, Some(Event::Leave(2))), (3, Some(Event::Request(1)))],
+        &[
+            (1, Some(Event::Step(3))),
+            (2, Some(Event::Leave(2))),
+            (3, Some(Event::Request(1))),
+        ],
     )
 }

@@ -22,13 +22,6 @@ returns-in_err-check_table c =
           ∙ sym (ap (refuse_in_table h f) (first_up_to (λ j. is_some (row_misfit h f j)) h.agents k c.loop-agent.auto.agent c.loop-agent-test.true bad c.loop-agent.invariant));
     }
 
-pub loop-agent-preserved : goal.loop-agent-preserved
-loop-agent-preserved c =
-    let h = c.args.self.now.header in
-    let f = c.args.self.now.file.now in
-    let k = c.loop-agent.agent in
-    none_push (λ j. is_some (row_misfit h f j)) 1 k (passed_none (BadEntry k) (row_misfit h f k) (sym c.check_table.ensures.value ∙ c.in_ok-check_table.was)) c.loop-agent.invariant
-
 pub returns : goal.returns
 returns c =
     let h = c.args.self.now.header in
