@@ -1,1 +1,1 @@
-pub mod FlagLaws
+pub mod NextLaws

@@ -1,19 +1,11 @@
 -- Flags that are set, and names where one is found. Assumes nothing.
-use Rattle.std.specs.Prelude.{◌≡◌, ℕ, zero, suc, ◌+◌, ◌-◌, ◌≤◌, Bool, true, false, cond, List, length, take, Some, refl}
+use Rattle.std.specs.Prelude.{◌≡◌, ℕ, ◌+◌, ◌-◌, ◌≤◌, Bool, true, false, List, length, take, Some, refl}
 use Rattle.std.proofs.Common.{sym, ◌∙◌, ⊎_elim, arith, get_or-take, length-take-le}
 use Rattle.numbers.specs.First.{IsFirst}
 use Rattle.numbers.proofs.FirstLaws.{first_cases}
-use Rattle.tally.specs.Counts.{count_names, flag_at, flags_set, lowest_flag}
+use Rattle.tally.specs.Counts.{flag_at, flags_set, lowest_flag}
+use Rattle.tally.proofs.CountLaws.{count_none}
 use Rattle.rules.specs.Lawful.{Name}
-
--- where no name passes, none counts
-count_none : (test : ℕ → Bool) (n : ℕ) → ((y : ℕ) → 1 ≤ y → y ≤ n → test y ≡ false) → count_names test n ≡ 0
-unfolding count_names
-count_none test zero none = refl
-count_none test (suc n) none =
-    let before = count_none test n (λ y a b. none y a (omega arith)) in
-    let here = none (suc n) (omega arith) (omega arith) in
-    λ i. before i + cond (here i) 1 0
 
 -- a flag that is set is found
 pub lowest_found : (fs : List Bool) → 1 ≤ flags_set fs → (x : ℕ) × (lowest_flag fs ≡ Some x) × IsFirst (flag_at fs) 1 (1 + length fs) x

@@ -1,5 +1,5 @@
 -- What is seen as own. Assumes nothing.
-use Rattle.std.specs.Prelude.{◌≡◌, ℕ, zero, suc, ◌+◌, ◌-◌, ◌≤◌, Bool, true, false, cond, List, length, take, Some, None, refl}
+use Rattle.std.specs.Prelude.{◌≡◌, ℕ, ◌+◌, ◌-◌, ◌≤◌, true, List, length, take, Some, None, refl}
 use Rattle.std.proofs.Common.{sym, ap, ◌∙◌, arith, get_or-take}
 use Rattle.std.proofs.lemmas.List.{length-take}
 use Rattle.std.proofs.lemmas.Bool.{eqb-true, false≢true}
@@ -7,7 +7,8 @@ use Rattle.numbers.proofs.FirstLaws.{first_tells_none, first_tells_some}
 use Rattle.cells.specs.Marks.{same_mark, mark_at}
 use Rattle.cells.specs.declared.mark.Mark.{Mark}
 use Rattle.cells.specs.declared.mark.Mark.TheVariants.{Empty, Owner, Rung}
-use Rattle.tally.specs.Counts.{count_names, has, times, lowest}
+use Rattle.tally.specs.Counts.{has, times, lowest}
+use Rattle.tally.proofs.CountLaws.{count_none}
 use Rattle.rules.specs.Lawful.{Name}
 
 -- a mark that is the same is equal
@@ -32,14 +33,6 @@ lowest_tells m ms k x is =
     let high : x ≤ m = omega (arith, first.below) in
     let here = same_equal (mark_at front x) k first.passes in
     ((low, high), sym (get_or-take m ms (x - 1) Empty (omega arith)) ∙ here)
-
-count_none : (test : ℕ → Bool) (n : ℕ) → ((y : ℕ) → 1 ≤ y → y ≤ n → test y ≡ false) → count_names test n ≡ 0
-unfolding count_names
-count_none test zero none = refl
-count_none test (suc n) none =
-    let before = count_none test n (λ y a b. none y a (omega arith)) in
-    let here = none (suc n) (omega arith) (omega arith) in
-    λ i. before i + cond (here i) 1 0
 
 -- with no lowest name the mark stands nowhere
 pub lowest_none : (ms : List Mark) (k : Mark) → lowest ms k ≡ None → times ms k ≡ 0

@@ -32,14 +32,14 @@ const THREE: [bool; 4] = [true, true, true, false];
 #[test]
 fn seeks() -> Result<(), Fail> {
     let mut agent = climber(Phase::Seek, 1, 0, FLAT);
-    Ladder::step(SIZES, &mut agent, Answer::of_read(OTHER));
+    Ladder::step(SIZES, &mut agent, Answer::Cell(OTHER));
     stands(&agent, Section::Asking, Phase::Seek, 2)?;
     let mut agent = climber(Phase::Seek, 3, 0, FLAT);
-    Ladder::step(SIZES, &mut agent, Answer::of_read(NONE));
+    Ladder::step(SIZES, &mut agent, Answer::Cell(NONE));
     stands(&agent, Section::Asking, Phase::Take, 1)?;
     has(&agent, 1, FLAT)?;
     let mut agent = having(climber(Phase::Seek, 3, 0, FLAT), &[NONE, OTHER, NONE]);
-    Ladder::step(SIZES, &mut agent, Answer::of_read(NONE));
+    Ladder::step(SIZES, &mut agent, Answer::Cell(NONE));
     stands(&agent, Section::Asking, Phase::Seek, 1)?;
     has(&agent, 0, FLAT)
 }
@@ -48,15 +48,15 @@ fn seeks() -> Result<(), Fail> {
 #[test]
 fn takes() -> Result<(), Fail> {
     let mut agent = climber(Phase::Take, 1, 1, FLAT);
-    Ladder::step(SIZES, &mut agent, Answer::of_swap(true));
+    Ladder::step(SIZES, &mut agent, Answer::Went(true));
     stands(&agent, Section::Asking, Phase::Take, 2)?;
     has(&agent, 1, [true, false, false, false])?;
     let mut agent = climber(Phase::Take, 3, 1, FLAT);
-    Ladder::step(SIZES, &mut agent, Answer::of_swap(false));
+    Ladder::step(SIZES, &mut agent, Answer::Went(false));
     stands(&agent, Section::Asking, Phase::Seek, 1)?;
     has(&agent, 0, FLAT)?;
     let mut agent = climber(Phase::Take, 3, 1, [false, true, false, false]);
-    Ladder::step(SIZES, &mut agent, Answer::of_swap(false));
+    Ladder::step(SIZES, &mut agent, Answer::Went(false));
     stands(&agent, Section::Asking, Phase::Drop, 2)?;
     has(&agent, 0, [false, true, false, false])
 }
@@ -65,15 +65,15 @@ fn takes() -> Result<(), Fail> {
 #[test]
 fn climbs() -> Result<(), Fail> {
     let mut agent = climber(Phase::Take, 3, 1, [true, false, false, false]);
-    Ladder::step(SIZES, &mut agent, Answer::of_swap(true));
+    Ladder::step(SIZES, &mut agent, Answer::Went(true));
     stands(&agent, Section::Asking, Phase::Raise, 1)?;
     has(&agent, 2, ENDS)?;
-    Ladder::step(SIZES, &mut agent, Answer::of_write());
+    Ladder::step(SIZES, &mut agent, Answer::Done);
     stands(&agent, Section::Asking, Phase::Raise, 3)?;
-    Ladder::step(SIZES, &mut agent, Answer::of_write());
+    Ladder::step(SIZES, &mut agent, Answer::Done);
     stands(&agent, Section::Asking, Phase::Fill, 1)?;
     let mut agent = climber(Phase::Take, 4, 1, ENDS);
-    Ladder::step(over(4), &mut agent, Answer::of_swap(false));
+    Ladder::step(over(4), &mut agent, Answer::Went(false));
     stands(&agent, Section::Asking, Phase::Raise, 1)?;
     has(&agent, 2, ENDS)
 }
@@ -81,17 +81,17 @@ fn climbs() -> Result<(), Fail> {
 #[test]
 fn fills() -> Result<(), Fail> {
     let mut agent = climber(Phase::Fill, 1, 2, ENDS);
-    Ladder::step(SIZES, &mut agent, Answer::of_read(Mark::Rung(2)));
+    Ladder::step(SIZES, &mut agent, Answer::Cell(Mark::Rung(2)));
     stands(&agent, Section::Asking, Phase::Fill, 2)?;
-    Ladder::step(SIZES, &mut agent, Answer::of_read(Mark::Rung(1)));
+    Ladder::step(SIZES, &mut agent, Answer::Cell(Mark::Rung(1)));
     stands(&agent, Section::Asking, Phase::Try, 2)?;
-    Ladder::step(SIZES, &mut agent, Answer::of_swap(false));
+    Ladder::step(SIZES, &mut agent, Answer::Went(false));
     stands(&agent, Section::Asking, Phase::Fill, 2)?;
-    Ladder::step(SIZES, &mut agent, Answer::of_read(NONE));
-    Ladder::step(SIZES, &mut agent, Answer::of_swap(true));
+    Ladder::step(SIZES, &mut agent, Answer::Cell(NONE));
+    Ladder::step(SIZES, &mut agent, Answer::Went(true));
     stands(&agent, Section::Asking, Phase::Fill, 3)?;
     has(&agent, 2, THREE)?;
-    Ladder::step(SIZES, &mut agent, Answer::of_read(Mark::Rung(3)));
+    Ladder::step(SIZES, &mut agent, Answer::Cell(Mark::Rung(3)));
     stands(&agent, Section::Holding, Phase::Seek, 1)?;
     has(&agent, 2, THREE)
 }
@@ -100,13 +100,13 @@ fn fills() -> Result<(), Fail> {
 #[test]
 fn fails_on_the_highest_rung() -> Result<(), Fail> {
     let mut agent = climber(Phase::Fill, 3, 2, ENDS);
-    Ladder::step(SIZES, &mut agent, Answer::of_read(Mark::Rung(2)));
+    Ladder::step(SIZES, &mut agent, Answer::Cell(Mark::Rung(2)));
     stands(&agent, Section::Asking, Phase::Drop, 1)?;
     has(&agent, 0, ENDS)?;
-    Ladder::step(SIZES, &mut agent, Answer::of_write());
+    Ladder::step(SIZES, &mut agent, Answer::Done);
     stands(&agent, Section::Asking, Phase::Drop, 3)?;
     has(&agent, 0, [false, false, true, false])?;
-    Ladder::step(SIZES, &mut agent, Answer::of_write());
+    Ladder::step(SIZES, &mut agent, Answer::Done);
     stands(&agent, Section::Asking, Phase::Seek, 1)?;
     has(&agent, 0, FLAT)
 }
@@ -118,9 +118,9 @@ fn leaves() -> Result<(), Fail> {
     Ladder::leave(SIZES, &mut agent);
     stands(&agent, Section::Leaving, Phase::Drop, 1)?;
     has(&agent, 0, ENDS)?;
-    Ladder::step(SIZES, &mut agent, Answer::of_write());
+    Ladder::step(SIZES, &mut agent, Answer::Done);
     stands(&agent, Section::Leaving, Phase::Drop, 3)?;
-    Ladder::step(SIZES, &mut agent, Answer::of_write());
+    Ladder::step(SIZES, &mut agent, Answer::Done);
     stands(&agent, Section::Idle, Phase::Seek, 1)?;
     has(&agent, 0, FLAT)
 }

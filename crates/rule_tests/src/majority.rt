@@ -22,21 +22,21 @@ fn scans(
 ) -> Result<(), Fail> {
     let cells = marks.len();
     let mut agent = having(at(Section::Asking, Phase::Scan, cells), marks);
-    Majority::step(over(cells), &mut agent, Answer::of_read(last));
+    Majority::step(over(cells), &mut agent, Answer::Cell(last));
     stands(&agent, section, phase, name)
 }
 
 #[test]
 fn takes_scans_and_waits() -> Result<(), Fail> {
-    steps((Phase::Take, 1), Answer::of_swap(true), (Phase::Take, 2))?;
-    steps((Phase::Take, 1), Answer::of_swap(false), (Phase::Take, 2))?;
-    steps((Phase::Take, 3), Answer::of_swap(false), (Phase::Scan, 1))?;
-    steps((Phase::Scan, 1), Answer::of_read(OTHER), (Phase::Scan, 2))?;
-    steps((Phase::Wait, 1), Answer::of_read(OTHER), (Phase::Wait, 2))?;
-    steps((Phase::Wait, 3), Answer::of_read(NONE), (Phase::Take, 1))?;
-    steps((Phase::Wait, 3), Answer::of_read(OTHER), (Phase::Wait, 1))?;
+    steps((Phase::Take, 1), Answer::Went(true), (Phase::Take, 2))?;
+    steps((Phase::Take, 1), Answer::Went(false), (Phase::Take, 2))?;
+    steps((Phase::Take, 3), Answer::Went(false), (Phase::Scan, 1))?;
+    steps((Phase::Scan, 1), Answer::Cell(OTHER), (Phase::Scan, 2))?;
+    steps((Phase::Wait, 1), Answer::Cell(OTHER), (Phase::Wait, 2))?;
+    steps((Phase::Wait, 3), Answer::Cell(NONE), (Phase::Take, 1))?;
+    steps((Phase::Wait, 3), Answer::Cell(OTHER), (Phase::Wait, 1))?;
     let mut agent = having(at(Section::Asking, Phase::Wait, 3), &[NONE, OTHER, NONE]);
-    Majority::step(SIZES, &mut agent, Answer::of_read(NONE));
+    Majority::step(SIZES, &mut agent, Answer::Cell(NONE));
     stands(&agent, Section::Asking, Phase::Wait, 1)
 }
 
@@ -81,10 +81,10 @@ fn scans_of_four() -> Result<(), Fail> {
 #[test]
 fn gives_while_asking() -> Result<(), Fail> {
     let mut agent = having(at(Section::Asking, Phase::Give, 1), &[OWN, OTHER, OWN]);
-    Majority::step(SIZES, &mut agent, Answer::of_write());
+    Majority::step(SIZES, &mut agent, Answer::Done);
     has_seen(&agent, &[NONE, OTHER, OWN])?;
     stands(&agent, Section::Asking, Phase::Give, 3)?;
-    Majority::step(SIZES, &mut agent, Answer::of_write());
+    Majority::step(SIZES, &mut agent, Answer::Done);
     has_seen(&agent, &[NONE, OTHER, NONE])?;
     stands(&agent, Section::Asking, Phase::Wait, 1)
 }
@@ -94,9 +94,9 @@ fn leaves() -> Result<(), Fail> {
     let mut agent = having(at(Section::Holding, Phase::Take, 1), &[OTHER, OWN, OWN]);
     Majority::leave(SIZES, &mut agent);
     stands(&agent, Section::Leaving, Phase::Give, 2)?;
-    Majority::step(SIZES, &mut agent, Answer::of_write());
+    Majority::step(SIZES, &mut agent, Answer::Done);
     stands(&agent, Section::Leaving, Phase::Give, 3)?;
-    Majority::step(SIZES, &mut agent, Answer::of_write());
+    Majority::step(SIZES, &mut agent, Answer::Done);
     stands(&agent, Section::Idle, Phase::Take, 1)?;
     has_seen(&agent, &[OTHER, NONE, NONE])
 }

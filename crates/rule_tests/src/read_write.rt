@@ -64,42 +64,42 @@ fn puts_reads_and_clears() -> Result<(), Fail> {
     let asking = Section::Asking;
     steps(
         (asking, Phase::Put, 1),
-        Answer::of_write(),
+        Answer::Done,
         (asking, Phase::Look, 1),
     )?;
     steps(
         (asking, Phase::Put, 3),
-        Answer::of_write(),
+        Answer::Done,
         (asking, Phase::Look, 1),
     )?;
     steps(
         (asking, Phase::Read, 1),
-        Answer::of_read(OWN),
+        Answer::Cell(OWN),
         (asking, Phase::Clear, 1),
     )?;
     steps(
         (asking, Phase::Read, 1),
-        Answer::of_read(OTHER),
+        Answer::Cell(OTHER),
         (asking, Phase::Read, 2),
     )?;
     steps(
         (asking, Phase::Read, 3),
-        Answer::of_read(OWN),
+        Answer::Cell(OWN),
         (asking, Phase::Clear, 3),
     )?;
     steps(
         (asking, Phase::Read, 3),
-        Answer::of_read(NONE),
+        Answer::Cell(NONE),
         (asking, Phase::Look, 1),
     )?;
     steps(
         (asking, Phase::Clear, 1),
-        Answer::of_write(),
+        Answer::Done,
         (asking, Phase::Read, 2),
     )?;
     steps(
         (asking, Phase::Clear, 3),
-        Answer::of_write(),
+        Answer::Done,
         (asking, Phase::Look, 1),
     )
 }
@@ -110,22 +110,22 @@ fn leaves() -> Result<(), Fail> {
     let idle = (Section::Idle, Phase::Look, 1);
     steps(
         (leaving, Phase::Read, 2),
-        Answer::of_read(NONE),
+        Answer::Cell(NONE),
         (leaving, Phase::Read, 3),
     )?;
-    steps((leaving, Phase::Read, 3), Answer::of_read(OTHER), idle)?;
+    steps((leaving, Phase::Read, 3), Answer::Cell(OTHER), idle)?;
     steps(
         (leaving, Phase::Clear, 2),
-        Answer::of_write(),
+        Answer::Done,
         (leaving, Phase::Read, 3),
     )?;
-    steps((leaving, Phase::Clear, 3), Answer::of_write(), idle)?;
+    steps((leaving, Phase::Clear, 3), Answer::Done, idle)?;
     let mut agent = at(Section::Holding, Phase::Look, 1);
     ReadWrite::leave(over(1), &mut agent);
     stands(&agent, leaving, Phase::Read, 1)?;
-    ReadWrite::step(over(1), &mut agent, Answer::of_read(OWN));
+    ReadWrite::step(over(1), &mut agent, Answer::Cell(OWN));
     stands(&agent, leaving, Phase::Clear, 1)?;
-    ReadWrite::step(over(1), &mut agent, Answer::of_write());
+    ReadWrite::step(over(1), &mut agent, Answer::Done);
     stands(&agent, Section::Idle, Phase::Look, 1)
 }
 
@@ -137,6 +137,6 @@ fn requests() -> Result<(), Fail> {
     ReadWrite::ask(SIZES, &mut agent);
     has_seen(&agent, &[NONE])?;
     stands(&agent, Section::Asking, Phase::Look, 1)?;
-    ReadWrite::step(SIZES, &mut agent, Answer::of_swap(true));
+    ReadWrite::step(SIZES, &mut agent, Answer::Went(true));
     stands(&agent, Section::Asking, Phase::Look, 1)
 }

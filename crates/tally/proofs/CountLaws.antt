@@ -39,9 +39,14 @@ count_same test other (suc n) e =
     let here = e (suc n) (omega arith) (omega arith) in
     λ i. before i + cond (here i) 1 0
 
-pub largest_more : (number : ℕ → ℕ) (n : ℕ) → largest number (n + 1) ≡ max (largest number n) (number (n + 1))
-unfolding largest
-largest_more number n = ap (largest number) (add-one n) ∙ ap (λ k. max (largest number n) (number k)) (sym (add-one n))
+-- where no name passes, none counts
+pub count_none : (test : ℕ → Bool) (n : ℕ) → ((y : ℕ) → 1 ≤ y → y ≤ n → test y ≡ false) → count_names test n ≡ 0
+unfolding count_names
+count_none test zero none = refl
+count_none test (suc n) none =
+    let before = count_none test n (λ y a b. none y a (omega arith)) in
+    let here = none (suc n) (omega arith) (omega arith) in
+    λ i. before i + cond (here i) 1 0
 
 pub largest_same : (number other : ℕ → ℕ) (n : ℕ) → ((y : ℕ) → 1 ≤ y → y ≤ n → number y ≡ other y) → largest number n ≡ largest other n
 unfolding largest

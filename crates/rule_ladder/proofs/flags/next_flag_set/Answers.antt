@@ -1,5 +1,5 @@
 use Rattle.std.proofs.Common.{sym, ◌∙◌, ⊎_elim, arith}
-use Rattle.rule_ladder.proofs.FlagLaws.{none_above, next_none, next_inside, next_some}
+use Rattle.rule_ladder.proofs.NextLaws.{none_above, next_none, next_inside, next_some}
 use Rattle.rule_ladder.proofs.flags.next_flag_set.Goals as goal
 
 pub returns-in_err-above : goal.returns-in_err-above

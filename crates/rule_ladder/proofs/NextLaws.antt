@@ -1,5 +1,5 @@
 -- The flags above a name. Assumes nothing.
-use Rattle.std.proofs.Common.{◌≡◌, ℕ, ◌+◌, ◌-◌, ◌<◌, ◌≤◌, Bool, false, List, length, take, take_all, drop, Some, None, refl, sym, subst, ap, ◌∙◌, arith, length-drop, get_or, get_or-drop}
+use Rattle.std.proofs.Common.{◌≡◌, ℕ, ◌+◌, ◌-◌, ◌<◌, ◌≤◌, Bool, false, List, length, take, take_all, drop, Some, None, refl, sym, ap, ◌∙◌, arith, length-drop, get_or, get_or-drop}
 use Rattle.numbers.specs.First.{IsFirst}
 use Rattle.numbers.proofs.FirstLaws.{first_none, first_found, first_tells_none, first_tells_some}
 use Rattle.tally.specs.Counts.{flag_at, lowest_flag}
