@@ -1,22 +1,47 @@
 -- Agents that are seated one after another by a load. Assumes nothing.
-use Rattle.std.proofs.Common.{◌≡◌, ℕ, ◌+◌, ◌-◌, ◌≤◌, List, [], ◌∷◌, ◌++◌, map, length, get_or, take, unwrap_or, sym, ap, ◌∙◌, arith}
-use Rattle.std.proofs.lemmas.List.FromFn.{map-range_with_len_more}
-use Rattle.std.proofs.lemmas.List.{length-map, map_push}
+use Rattle.std.proofs.Common.{◌≡◌, ℕ, zero, suc, ◌+◌, ◌-◌, ◌≤◌, Some, refl, add-one, List, [], ◌∷◌, ◌++◌, map, length, get_or, take, length-append, sym, ap, subst, ⊎_elim, ◌∙◌, arith}
+use Rattle.std.proofs.lemmas.List.{length-map, get_or_append_left}
 use Rattle.numbers.specs.Names.{named, listed}
-use Rattle.numbers.proofs.NameLaws.{length_listed, named_listed, getD_listed}
+use Rattle.numbers.proofs.NameLaws.{listed_from, length_listed, named_listed, getD_listed}
 use Rattle.plan.specs.Plans.{plan_at, identity_at}
 use Rattle.plan.specs.declared.header.Header.{Header}
 use Rattle.model.specs.Loads.{new_seat}
 use Rattle.model.specs.Meanings.{Meaning}
 use Rattle.model.specs.Rigs as model
 use Rattle.rig.specs.Bounds.{peak, busiest}
+use Rattle.rig.specs.Seating.{MadeOf}
+use Rattle.rig.proofs.SeatLaws.{named_there, named_some, named_map_some}
+use Rattle.std.proofs.lemmas.Bool.{cases_eq}
+use Rattle.std.proofs.Math.Seq.{get_or-append_seam}
 use Rattle.rig.specs.Newcomers.{newcomer}
 use Rattle.rig.specs.Worlds.{seat_over}
 use Rattle.rig.specs.declared.seat.Seat.{Seat}
 
-listed_more : {A : Type 0} (g : ℕ → A) (n : ℕ) → listed g (n + 1) ≡ listed g n ++ g (n + 1) ∷ []
-unfolding listed
-listed_more g n = map-range_with_len_more g 1 n (n + 1) (omega arith)
+-- no seats yet, and one seat more
+pub made_none : {A : Type 0} (made : ℕ → A → Type 0) (xs : List A) → xs ≡ [] → MadeOf made xs 0
+made_none made xs e = record { long = ap length e; each = λ k a b. absurd (omega arith) }
+
+pub made_more : {A : Type 0} (made : ℕ → A → Type 0) (xs after : List A) (s : A) (k : ℕ) → 1 ≤ k → after ≡ xs ++ s ∷ [] → made k s → MadeOf made xs (k - 1) → MadeOf made after k
+made_more made xs after s k low e here before =
+    let grown : length after ≡ length xs + 1 = ap length e ∙ length-append xs (s ∷ []) in
+    record {
+      long = omega (arith, grown, before.long);
+      each = λ j a b.
+          ⊎_elim
+          (λ same.
+          let last : j - 1 ≡ length xs = omega (arith, before.long, same, low) in (
+            s,
+            named_there after j s a (omega (arith, grown, before.long)) ∙ ap Some (ap (λ ys. get_or ys (j - 1) s) e ∙ ap (λ i. get_or (xs ++ s ∷ []) i s) last ∙ get_or-append_seam xs s [] s),
+            subst (λ i. made i s) (sym same) here,
+          ))
+          (λ other.
+          let old = before.each j a (omega (arith, other, b)) in (
+            old.0,
+            named_there after j old.0 a (omega (arith, grown, before.long)) ∙ ap Some (ap (λ ys. get_or ys (j - 1) old.0) e ∙ get_or_append_left xs (s ∷ []) old.0 (j - 1) (omega (arith, before.long, other, b, low))) ∙ sym (named_there xs j old.0 a (omega (arith, before.long, other, b))) ∙ old.1,
+            old.2,
+          ))
+          (cases_eq j k);
+    }
 
 module _ {P : Type 0} where
   -- a new agent's seat, as the model has it
@@ -30,26 +55,39 @@ module _ {P : Type 0} where
   abbrev pub Seated : (ℕ → model.Seat P) → ℕ → List (Seat P) → ℕ → Type 0
   Seated f m xs i = (map (seat_over m) xs ≡ listed f i) × (busiest xs ≡ 0)
 
-  pub seated_none : (f : ℕ → model.Seat P) (m : ℕ) (xs : List (Seat P)) → xs ≡ [] → Seated f m xs 0
-  unfolding listed
-  seated_none f m xs e = (ap (map (seat_over m)) e, ap busiest e)
+  -- whose figures are all 0
+  all_fresh : (xs : List (Seat P)) → ((k : ℕ) (s : Seat P) → named xs k ≡ Some s → peak s ≡ 0) → busiest xs ≡ 0
+  unfolding named
+  all_fresh [] h = refl
+  all_fresh (x ∷ xs) h =
+      let rest = all_fresh xs (λ k s e. h (k + 1) s (ap (named (x ∷ xs)) (add-one k) ∙ named_later x xs k s e)) in
+      omega (arith, h 1 x refl, rest)
+    where
+      named_later : (y : Seat P) (ys : List (Seat P)) (k : ℕ) (s : Seat P) → named ys k ≡ Some s → named (y ∷ ys) (suc k) ≡ Some s
+      named_later y ys zero s e = let z : ◌≡◌ {A = ℕ} 0 1 = cc e in absurd (omega arith)
+      named_later y ys (suc k) s e = e
 
-  pub seated_length : (f : ℕ → model.Seat P) (m : ℕ) (xs : List (Seat P)) (i : ℕ) → Seated f m xs i → length xs ≡ i
-  seated_length f m xs i h = sym (length-map xs (seat_over m)) ∙ ap length h.0 ∙ length_listed f i
-
-  busiest_push : (xs : List (Seat P)) (s : Seat P) → busiest xs ≡ 0 → peak s ≡ 0 → busiest (xs ++ s ∷ []) ≡ 0
-  busiest_push [] s a b = omega (arith, b)
-  busiest_push (x ∷ xs) s a b = let later = busiest_push xs s (omega arith) b in omega (arith, a, later)
-
-  pub seated_more : (f : ℕ → model.Seat P) (m : ℕ) (xs after : List (Seat P)) (s : Seat P) (i : ℕ) → after ≡ xs ++ s ∷ [] → seat_over m s ≡ f (i + 1) → peak s ≡ 0 → Seated f m xs i → Seated f m after (i + 1)
-  seated_more f m xs after s i e here fresh before = (
-    ap (map (seat_over m)) e ∙ map_push (seat_over m) xs s ∙ ap (λ ys. ys ++ seat_over m s ∷ []) before.0 ∙ ap (λ t. listed f i ++ t ∷ []) here ∙ sym (listed_more f i),
-    ap busiest e ∙ busiest_push xs s before.1 fresh,
+  -- the agents as they were made, one by one
+  pub made_seated : (f : ℕ → model.Seat P) (m : ℕ) (xs : List (Seat P)) (n : ℕ) → length xs ≡ n → ((k : ℕ) → 1 ≤ k → k ≤ n → (s : Seat P) × (named xs k ≡ Some s) × (seat_over m s ≡ f k) × (peak s ≡ 0)) → Seated f m xs n
+  made_seated f m xs n long each = (
+    listed_from f n (f 0) (map (seat_over m) xs) (length-map xs (seat_over m) ∙ long)
+        (λ k a b.
+        let one = each k a b in
+        let at : named (map (seat_over m) xs) k ≡ Some (seat_over m one.0) = named_map_some (seat_over m) xs k one.0 (sym one.1) in
+        let there : named (map (seat_over m) xs) k ≡ Some (get_or (map (seat_over m) xs) (k - 1) (f 0)) = named_there (map (seat_over m) xs) k (f 0) a (omega (arith, b, long, length-map xs (seat_over m))) in
+        let same : get_or (map (seat_over m) xs) (k - 1) (f 0) ≡ seat_over m one.0 = cc (at, there) in
+        same ∙ one.2),
+    all_fresh xs
+        (λ k s e.
+        let b = named_some xs k s e in
+        let one = each k b.0 (omega (arith, b.1, long)) in
+        let same : s ≡ one.0 = cc (e, one.1) in
+        ap peak same ∙ one.3),
   )
 
 -- what a plan says of an agent's identity
-pub identity_planned : (h : Header) (file : List ℕ) (k v : ℕ) → 1 ≤ k → k ≤ h.agents → v ≡ unwrap_or (named (plan_at h file).identities k) 0 → v ≡ get_or (plan_at h file).identities (k - 1) 0
+pub identity_planned : (h : Header) (file : List ℕ) (k v : ℕ) → 1 ≤ k → k ≤ h.agents → Some v ≡ named (plan_at h file).identities k → v ≡ get_or (plan_at h file).identities (k - 1) 0
 identity_planned h file k v a b e =
-    e
-    ∙ ap (λ o. unwrap_or o 0) (named_listed (identity_at h file) h.agents k a b)
-    ∙ sym (getD_listed (identity_at h file) h.agents k 0 a b)
+    let there : Some v ≡ Some (identity_at h file k) = e ∙ named_listed (identity_at h file) h.agents k a b in
+    let same : v ≡ identity_at h file k = cc there in
+    same ∙ sym (getD_listed (identity_at h file) h.agents k 0 a b)

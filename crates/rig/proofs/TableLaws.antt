@@ -1,7 +1,9 @@
 -- Tables that are filled entry by entry, and the tables of a plan. Assumes nothing.
-use Rattle.std.proofs.Common.{◌≡◌, ℕ, ◌+◌, ◌-◌, ◌<◌, ◌≤◌, List, [], length, get_or, take, set, unwrap_or, sym, ap, ◌∙◌, ⊎_elim, arith}
+use Rattle.std.proofs.Common.{◌≡◌, ℕ, zero, suc, ◌+◌, ◌-◌, ◌<◌, ◌≤◌, List, [], length, get_or, take, set, unwrap_or, sym, ap, ◌∙◌, ⊎_elim, subst, arith}
 use Rattle.std.proofs.lemmas.List.{get_or-take, get_or-set_same, get_or-set_other, length-take}
 use Rattle.std.proofs.lemmas.Bool.{cases_eq}
+use Rattle.std.specs.Array.{IsFromFnResultFrom}
+use Rattle.std.specs.Fn.{Mut, Called}
 use Rattle.numbers.specs.Names.{listed}
 use Rattle.numbers.proofs.NameLaws.{listed_from, getD_listed, named_listed}
 use Rattle.plan.specs.Plans.{entry_at, entry_in, entry_named, plan_at}
@@ -38,3 +40,19 @@ module _ (h : Header) (file : List ℕ) (k : ℕ) (a : 1 ≤ k) (b : k ≤ h.age
 
   pub table_planned : (t : List ℕ) → h.cells ≤ length t → Filled (entry_at h file k) t h.cells → take h.cells t ≡ get_or (plan_at h file).tables (k - 1) []
   table_planned t long at = filled_front (entry_at h file k) t h.cells long at ∙ sym (getD_listed (λ j. listed (entry_at h file j) h.cells) h.agents k [] a b)
+
+-- what a closure that stays as it is makes of the places
+pub made_each : {F B : Type 0} (g : Mut F (ℕ × Unit {0}) B) (h : ℕ → B) (f : F) (ys : List B) (i n : ℕ) (d : B) → ((x : ℕ) (y : B) (q : F) → Called g f (x, tt) y q → (q ≡ f) × (y ≡ h x)) → IsFromFnResultFrom g f ys i n → (k : ℕ) → i ≤ k → k < i + n → get_or ys k d ≡ h k
+made_each g h f ys i zero d says made k a b = absurd (omega arith)
+made_each g h f ys i (suc n) d says (q, y, at, called, rest) k a b =
+    let is = says i y q called in
+    ⊎_elim
+    (λ same. ap (λ j. get_or ys j d) same ∙ at.1 d ∙ is.1 ∙ sym (ap h same))
+    (λ other. made_each g h f ys (i + 1) n d says (subst (λ p. IsFromFnResultFrom g p ys (i + 1) n) is.0 rest) k (omega arith) (omega arith))
+    (cases_eq k i)
+
+-- so it fills a table
+pub made_filled : {F : Type 0} (g : Mut F (ℕ × Unit {0}) ℕ) (h : ℕ → ℕ) (f : F) (t : List ℕ) (n m : ℕ) → m ≤ n → length t ≡ n → ((i v : ℕ) (q : F) → Called g f (i, tt) v q → (q ≡ f) × (v ≡ h (i + 1))) → IsFromFnResultFrom g f t 0 n → Filled h t m
+made_filled g h f t n m few long says made x a b =
+    let next : x - 1 + 1 ≡ x = omega arith in
+    made_each g (λ i. h (i + 1)) f t 0 n 0 says made (x - 1) (omega arith) (omega arith) ∙ ap h next

@@ -2,11 +2,11 @@
 ghost use Rattle.std.specs.Prelude.{◌≡◌, ◌-◌, ◌≤◌, [], map, take, slice_index_or};
 ghost use Rattle.numbers.specs.Names.{listed};
 ghost use Rattle.plan.specs.Plans.{model};
-ghost use Rattle.model.specs.Loads.{seat_of, new_world, load_answer, after_load};
+ghost use Rattle.model.specs.Loads.{seat_of, is_blank, new_world, load_answer, after_load};
 ghost use Rattle.model.specs.Meanings.{meaning_of};
 ghost use Rattle.rig.specs.Bounds.{peak, busiest};
 ghost use Rattle.rig.specs.Seating.{seated_in};
-ghost use Rattle.rig.specs.Worlds.{seat_over, world};
+ghost use Rattle.rig.specs.Worlds.{seat_over, rig_of, world};
 
 use crate::emptiness::check_empty;
 use crate::newcomers::new_seat;
@@ -17,44 +17,34 @@ use cells::CellStore;
 use plan::Plan;
 use refusal::Refusal;
 use rules::Rule;
+use std::array;
 
 // An agent's table, at the front of the answer.
 fn table_of(plan: &Plan<'_>, agent: usize) -> [u8; 64]
-    requires cells { (model plan.now).cells ≤ 64 }
     requires first { 1 ≤ agent }
     requires last { agent ≤ (model plan.now).agents }
     ensures value { take (model plan.now).cells result ≡ slice_index_or (model plan.now).tables (agent - 1) [] }
 {
-    let mut table = [0; 64];
-    for before in 0..plan.cells() {
-        table[before] = plan.table_entry(agent, before + 1).unwrap_or(0);
-    }
-    table
+    array::from_fn(|before| plan.table_entry(agent, before + 1).unwrap_or(0))
 }
 
 // An agent with its identity and its table.
 fn planned_seat<R: Rule>(plan: &Plan<'_>, agent: usize) -> Seat<R::Phase>
-    requires cells { (model plan.now).cells ≤ 64 }
     requires first { 1 ≤ agent }
     requires last { agent ≤ (model plan.now).agents }
     ensures value { seat_over (model plan.now).cells result ≡ seat_of (meaning_of R.Rule) (model plan.now) agent }
     ensures fresh { peak result ≡ 0 }
 {
-    let identity = plan.identity(agent).unwrap_or(0);
+    let identity = plan.identity(agent).unwrap();
     new_seat::<R>(identity, table_of(plan, agent))
 }
 
 // Seats the agents of a plan in place of all others.
 fn seat_planned<R: Rule>(seats: &mut Seats<R::Phase>, plan: &Plan<'_>)
-    requires cells { (model plan.now).cells ≤ 64 }
-    requires agents { (model plan.now).agents ≤ 16 }
     ensures seats { map (seat_over (model plan.now).cells) (seated_in seats.new) ≡ listed (seat_of (meaning_of R.Rule) (model plan.now)) (model plan.now).agents }
     ensures fresh { busiest (seated_in seats.new) ≡ 0 }
 {
-    seats.clear();
-    for before in 0..plan.agents() {
-        seats.add(planned_seat::<R>(plan, before + 1));
-    }
+    seats.fill(plan.agents(), |agent| planned_seat::<R>(plan, agent));
 }
 
 impl<S: CellStore, R: Rule> Rig<S, R> {
@@ -71,16 +61,23 @@ impl<S: CellStore, R: Rule> Rig<S, R> {
         self.standoff = standoff;
     }
 
+    // A rig is blank while it has no cells: each load gives it some.
+    pub(crate) fn is_blank(&self) -> bool
+        ensures value { result ≡ is_blank (rig_of self.now) }
+    {
+        self.cells == 0
+    }
+
     // Loads a blank rig from a plan file, over a store whose cells are all empty.
     pub fn load(&mut self, file: &[u8]) -> Result<(), Refusal>
         ensures value { result ≡ load_answer (meaning_of R.Rule) (world S.marks self.old) file.now }
         ensures after { world S.marks self.new ≡ after_load (meaning_of R.Rule) (world S.marks self.old) file.now }
         ensures same { S.lender self.new.store ≡ S.lender self.old.store }
     {
-        if self.cells != 0 {
+        if !self.is_blank() {
             return Err(Refusal::NotBlank);
         }
-        let plan = Plan::decode(file, R::own_number())?;
+        let plan = Plan::decode(file, R::NUMBER)?;
         check_empty(&self.store, plan.cells())?;
         seat_planned::<R>(&mut self.seats, &plan);
         self.begin(plan.cells(), None);

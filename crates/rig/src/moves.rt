@@ -44,14 +44,9 @@ fn take_step<S: CellStore, R: Rule>(
     ensures store { S.marks store.new ≡ after_check result (cells_after (meaning_of R.Rule) sizes (S.marks store.old) (Step 0) (seat_over sizes.cells seat.old)) (S.marks store.old) }
     ensures same { S.lender store.new ≡ S.lender store.old }
 {
-    let want = R::want(sizes.agents, sizes.cells, &seat.agent);
+    let want = R::want(sizes, &seat.agent);
     let outcome = serve(store, seat, sizes.cells, want)?;
-    R::step(
-        sizes.agents,
-        sizes.cells,
-        &mut seat.agent,
-        outcome.answer(sizes.cells),
-    );
+    R::step(sizes, &mut seat.agent, outcome.answer(sizes.cells));
     seat.count_step();
     Ok(())
 }
@@ -71,9 +66,9 @@ fn act<S: CellStore, R: Rule>(
     ensures same { S.lender store.new ≡ S.lender store.old }
 {
     match event {
-        Event::Request(_) => R::ask(sizes.agents, sizes.cells, &mut seat.agent),
+        Event::Request(_) => R::ask(sizes, &mut seat.agent),
         Event::Step(_) => take_step::<S, R>(store, seat, sizes)?,
-        Event::Leave(_) => R::leave(sizes.agents, sizes.cells, &mut seat.agent),
+        Event::Leave(_) => R::leave(sizes, &mut seat.agent),
     }
     Ok(())
 }

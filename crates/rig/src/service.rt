@@ -30,9 +30,9 @@ impl Outcome {
     {
         match self {
             Outcome::Seen(marks) => Answer::Marks(front(marks, cells)),
-            Outcome::Cell(mark) => Answer::of_read(*mark),
-            Outcome::Done => Answer::of_write(),
-            Outcome::Went(found) => Answer::of_swap(*found),
+            Outcome::Cell(mark) => Answer::Cell(*mark),
+            Outcome::Done => Answer::Done,
+            Outcome::Went(found) => Answer::Went(*found),
         }
     }
 }
@@ -40,15 +40,11 @@ impl Outcome {
 impl<P: Copy> Seat<P> {
     // The store's name for a local name, over `cells` cells; 0 where there is none.
     pub fn entry(&self, name: usize, cells: usize) -> usize
-        requires { cells ≤ 64 }
         ensures value { result ≡ entry (seat_over cells self.now) name }
     {
-        let before = name.saturating_sub(1);
-        if before < cells {
-            self.table[before] as usize
-        } else {
-            0
-        }
+        front(&self.table, cells)
+            .get(name.saturating_sub(1))
+            .map_or(0, |cell| usize::from(*cell))
     }
 }
 
@@ -63,8 +59,8 @@ fn look<S: CellStore, P: Copy>(
     ensures seen { IfOk result (λ ms. take cells ms ≡ listed (λ x. mark_at (S.marks store.now) (entry (seat_over cells seat.now) x)) cells) }
 {
     let mut seen = [Mark::Empty; 64];
-    for before in 0..cells {
-        seen[before] = store.read(seat.entry(before + 1, cells))?;
+    for (before, cell) in front(&seat.table, cells).iter().enumerate() {
+        seen[before] = store.read(usize::from(*cell))?;
     }
     Ok(seen)
 }

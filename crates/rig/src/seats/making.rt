@@ -1,7 +1,7 @@
 // How seats are made and counted.
-ghost use Rattle.std.specs.Prelude.{◌≡◌, ◌<◌, ◌≤◌, [], ◌∷◌, ◌++◌, length, IfOk, count_by, position};
+ghost use Rattle.std.specs.Prelude.{◌≡◌, ℕ, ◌<◌, ◌≤◌, [], ◌∷◌, ◌++◌, length, IfOk, count_by, position};
 ghost use Rattle.model.specs.Rigs.{is_asking, is_holding};
-ghost use Rattle.rig.specs.Seating.{seated_in};
+ghost use Rattle.rig.specs.Seating.{seated_in, MadeOf};
 
 use super::Seats;
 use crate::seat::Seat;
@@ -47,10 +47,22 @@ impl<P: Copy> Seats<P> {
     }
 
     // Adds an agent after the others, while there is room.
-    pub(crate) fn add(&mut self, seat: Seat<P>)
+    fn add(&mut self, seat: Seat<P>)
         requires { length (seated_in self.old) < 16 }
         ensures after { seated_in self.new ≡ seated_in self.old ++ seat ∷ [] }
     {
         self.items.push_reserved(seat);
+    }
+
+    // Seats so many agents in place of all others, each as it is made of its number.
+    pub(crate) fn fill<F: Fn(usize) -> Seat<P>>(&mut self, agents: usize, made: F)
+        requires room { agents ≤ 16 }
+        requires callable { (k : ℕ) → 1 ≤ k → k ≤ agents → F.pre made k }
+        ensures seats { MadeOf (F.post made) (seated_in self.new) agents }
+    {
+        self.clear();
+        for agent in 1..=agents {
+            self.add(made(agent));
+        }
     }
 }
