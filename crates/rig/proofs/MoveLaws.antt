@@ -1,16 +1,14 @@
 -- What a move makes of the world, from what it makes of one seat. Assumes nothing.
-use Rattle.std.proofs.Common.{◌≡◌, ℕ, zero, suc, ◌+◌, ◌-◌, cond, List, [], ◌∷◌, map, length, set, is_ok, Some, None, Ok, Err, Option, sym, refl, ap, ◌∙◌, arith}
+use Rattle.std.proofs.Common.{◌≡◌, ℕ, zero, suc, ◌+◌, ◌-◌, List, [], ◌∷◌, map, length, set, Some, None, Ok, Err, Option, sym, refl, ap, ◌∙◌, arith}
 use Rattle.std.proofs.lemmas.List.{length-map}
 use Rattle.numbers.specs.Names.{named}
 use Rattle.numbers.specs.declared.sizes.Sizes.{Sizes}
-use Rattle.refusal.specs.Checks.{◌then◌, Check}
+use Rattle.refusal.specs.Checks.{Check}
 use Rattle.refusal.specs.declared.Refusal.{Refusal}
 use Rattle.plan.specs.declared.event.Event.{Event}
 use Rattle.plan.specs.declared.event.Event.TheVariants.{Request, Step, Leave}
-use Rattle.cells.specs.Marks.{put, name_check, mark_check, mark_at, same_mark, says_yes}
+use Rattle.cells.specs.Marks.{put}
 use Rattle.cells.specs.declared.mark.Mark.{Mark}
-use Rattle.rules.specs.declared.want.Want.{Want}
-use Rattle.rules.specs.declared.want.Want.TheVariants.{Look, Read, Write, Swap}
 use Rattle.model.specs.Meanings.{Meaning}
 use Rattle.model.specs.Rigs as model
 use Rattle.rig.specs.Moves.{crowded, granted, needs, seat_after, cells_after}

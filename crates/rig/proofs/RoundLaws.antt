@@ -4,7 +4,6 @@ use Rattle.numbers.specs.First.{NonePasses}
 use Rattle.numbers.specs.Names.{named}
 use Rattle.numbers.proofs.FirstLaws.{none_up_to, first_up_to}
 use Rattle.refusal.specs.Checks.{◌then◌, Check, refuse_if}
-use Rattle.refusal.specs.declared.Refusal.{Refusal}
 use Rattle.plan.specs.declared.event.Event.{Event}
 use Rattle.plan.specs.declared.event.Event.TheVariants as event
 use Rattle.model.specs.Meanings.{Meaning}

@@ -1,5 +1,5 @@
 -- Laws of lists with names from 1 on, as seats are lent from them. Assumes nothing.
-use Rattle.std.proofs.Common.{◌≡◌, ℕ, zero, suc, ◌-◌, ◌≤◌, true, false, List, [], ◌∷◌, map, length, get_or, Some, None, Option, sym, refl, ap, ◌∙◌, ⊎_elim, arith}
+use Rattle.std.proofs.Common.{◌≡◌, ℕ, zero, suc, ◌-◌, ◌≤◌, true, false, List, [], ◌∷◌, map, length, get_or, Some, None, Option, sym, refl, ap, ◌∙◌, ⊎_elim, subst, arith}
 use Rattle.std.proofs.lemmas.Option.{slice_get-get_or}
 use Rattle.std.proofs.lemmas.Bool.{cases_lt, cases_Bool}
 use Rattle.std.specs.Option.{option_map}
@@ -65,3 +65,7 @@ named_map_some f xs k x e = named_map f xs k ∙ ap (option_map f) (sym e)
 
 pub named_map_none : {A B : Type 0} (f : A → B) (xs : List A) (k : ℕ) → None ≡ named xs k → named (map f xs) k ≡ None
 named_map_none f xs k e = named_map f xs k ∙ ap (option_map f) (sym e)
+
+-- the same at the place before the name
+pub lent_before : {R A : Type 0} (now' : R → A) (xs : List A) (k i : ℕ) (r : Option R) → (1 ≤ k) × (i ≡ k - 1) → ItemBy now' xs i i r → option_map now' r ≡ named xs k
+lent_before now' xs k i r at item = lent_named now' xs k r at.0 (subst (λ j. ItemBy now' xs j j r) at.1 item)

@@ -2,7 +2,7 @@
 use Rattle.std.proofs.Common.{◌≡◌, ℕ, zero, suc, ◌+◌, ◌-◌, ◌≤◌, Some, refl, add-one, List, [], ◌∷◌, ◌++◌, map, length, get_or, take, length-append, sym, ap, subst, ⊎_elim, ◌∙◌, arith}
 use Rattle.std.proofs.lemmas.List.{length-map, get_or_append_left}
 use Rattle.numbers.specs.Names.{named, listed}
-use Rattle.numbers.proofs.NameLaws.{listed_from, length_listed, named_listed, getD_listed}
+use Rattle.numbers.proofs.NameLaws.{listed_from, named_listed, getD_listed}
 use Rattle.plan.specs.Plans.{plan_at, identity_at}
 use Rattle.plan.specs.declared.header.Header.{Header}
 use Rattle.model.specs.Loads.{new_seat}

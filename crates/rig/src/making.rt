@@ -10,10 +10,9 @@ use rules::Rule;
 
 impl<S: CellStore, R: Rule> Rig<S, R> {
     // A blank rig, with no agents whatever seats it is given.
-    pub fn new(store: S, rule: R, seats: Seats<R::Phase>) -> Rig<S, R>
+    pub fn new(store: S, rule: R, mut seats: Seats<R::Phase>) -> Rig<S, R>
         ensures value { world S.marks result ≡ blank_world R.Phase (S.marks store) }
     {
-        let mut seats = seats;
         seats.clear();
         Rig {
             store,

@@ -73,6 +73,8 @@ fn act<S: CellStore, R: Rule>(
     Ok(())
 }
 
+// A call that is heard is counted, so each function here asks that one is left to hear: a count that stopped at the most
+// would not be the definitions' sum.
 impl<S: CellStore, R: Rule> Rig<S, R> {
     // Counts a call that was refused for the section of agent k.
     fn turn_away(&mut self, k: usize)

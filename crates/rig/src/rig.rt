@@ -5,6 +5,7 @@ ghost use Rattle.rig.specs.Bounds.{busiest};
 use crate::seats::Seats;
 use rules::Rule;
 
+// Whatever changes a rig leaves the store's lender as it was, and says so: a store may be lent.
 // The store and the rule; the number of cells, 0 while the rig is blank; the agents; how many calls were heard, and the
 // most agents asking after any one of them; on a stand-off, how many agents move together.
 pub struct Rig<S, R: Rule> {

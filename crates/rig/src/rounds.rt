@@ -23,6 +23,7 @@ impl<S: CellStore, R: Rule> Rig<S, R> {
         ensures early { IfOk result (λ l. self.now.heard + l ≤ 1000000) }
     {
         let together = self.standoff.ok_or(Refusal::NoStandoff)?;
+        // No `From` widens a `u32` to a `usize`.
         if together > (MOST_HEARD - self.heard) as usize {
             return Err(Refusal::HeardAll);
         }
@@ -40,6 +41,7 @@ impl<S: CellStore, R: Rule> Rig<S, R> {
     fn check_all(&self, round: Round, together: usize) -> Result<(), Refusal>
         ensures value { result ≡ all_may round (rig_of self.now) together }
     {
+        // A loop: what `any` tells over a range of names was not proved.
         for agent in 1..=together {
             if self.may_not(round, agent) {
                 return Err(round.refusal());
@@ -71,6 +73,7 @@ impl<S: CellStore, R: Rule> Rig<S, R> {
         checked
     }
 
+    // The project asks for each kind of round by a name of its own too.
     pub fn request_round(&mut self) -> Result<(), Refusal>
         ensures value { result ≡ round_answer (world S.marks self.old) Request }
         ensures after { world S.marks self.new ≡ after_round (meaning_of R.Rule) (world S.marks self.old) Request }

@@ -6,6 +6,7 @@ use rules::{Agent, Section};
 
 // The store's names for the agent's local names, from name 1 on; the agent's record; its accepted steps, those of them
 // that ended in holding, and its calls that were refused for its section.
+// With no heap, a table has room for 64 names, of which the first count, as many as there are cells.
 #[derive(Drop)]
 pub struct Seat<P: Copy> {
     pub table: [u8; 64],

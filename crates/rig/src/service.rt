@@ -15,6 +15,7 @@ use rules::{Answer, Want, front};
 
 // What came of a want: the marks of a look, at its front; the mark of a read; that a write is done; whether a swap found
 // the old mark.
+// Not `rules::Answer`: with no heap, a look's marks lie in an array of whoever serves, and are lent to the rule from there.
 #[derive(Clone, Copy)]
 pub enum Outcome {
     Seen([Mark; 64]),
@@ -59,6 +60,7 @@ fn look<S: CellStore, P: Copy>(
     ensures seen { IfOk result (λ ms. take cells ms ≡ listed (λ x. mark_at (S.marks store.now) (entry (seat_over cells seat.now) x)) cells) }
 {
     let mut seen = [Mark::Empty; 64];
+    // By index: of what `iter_mut` beside another iterator writes, a proof knows no element.
     for (before, cell) in front(&seat.table, cells).iter().enumerate() {
         seen[before] = store.read(usize::from(*cell))?;
     }

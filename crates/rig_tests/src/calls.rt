@@ -1,5 +1,5 @@
 // Calls of one agent: a refusal comes before every later one, and only those for the section are counted.
-use crate::lines::{ACCEPTED, Call, Line};
+use crate::lines::{Call, Counts, Line};
 use crate::rigs::blank_follows;
 use cells::Mark;
 use mark_table::MarkTable;
@@ -11,36 +11,60 @@ use std::test::Fail;
 const BLANK: &[Line] = &[
     Line::Sizes(0, 0, 0),
     Line::Holder(None),
-    Line::Gives(Call::Request(1), (12, 1)),
-    Line::Gives(Call::Step(0), (12, 0)),
-    Line::Gives(Call::Leave(16), (12, 16)),
-    Line::Gives(Call::Section(1), (12, 1)),
-    Line::Gives(Call::Figures(1), (12, 1)),
-    Line::Gives(Call::RequestRound, (23, 0)),
-    Line::Gives(Call::StepRound, (23, 0)),
-    Line::Gives(Call::LeaveRound, (23, 0)),
-    Line::Gives(Call::Cell(0), (17, 0)),
+    Line::Gives(Call::Request(1), Err((12, 1))),
+    Line::Gives(Call::Step(0), Err((12, 0))),
+    Line::Gives(Call::Leave(16), Err((12, 16))),
+    Line::Gives(Call::Section(1), Err((12, 1))),
+    Line::Gives(Call::Figures(1), Err((12, 1))),
+    Line::Gives(Call::RequestRound, Err((23, 0))),
+    Line::Gives(Call::StepRound, Err((23, 0))),
+    Line::Gives(Call::LeaveRound, Err((23, 0))),
+    Line::Gives(Call::Cell(0), Err((17, 0))),
     Line::Cell(3, Mark::Empty),
-    Line::Gives(Call::Cell(4), (17, 4)),
+    Line::Gives(Call::Cell(4), Err((17, 4))),
 ];
 
 // An idle agent cannot step or leave, one that asks can only step. Agents 0 and 3 and rounds are heard by nobody.
 const REFUSED: &[Line] = &[
-    Line::Gives(Call::Plan, ACCEPTED),
-    Line::Gives(Call::Step(1), (15, 1)),
-    Line::Gives(Call::Event(Event::Leave(1)), (14, 1)),
-    Line::Figures(1, (0, 0, 2, 2)),
+    Line::Gives(Call::Plan, Ok(())),
+    Line::Gives(Call::Step(1), Err((15, 1))),
+    Line::Gives(Call::Event(Event::Leave(1)), Err((14, 1))),
+    Line::Figures(
+        1,
+        Counts {
+            steps: 0,
+            entries: 0,
+            refused: 2,
+            heard: 2,
+        },
+    ),
     Line::Section(1, Section::Idle),
-    Line::Gives(Call::Request(0), (12, 0)),
-    Line::Gives(Call::Event(Event::Request(3)), (12, 3)),
-    Line::Gives(Call::RequestRound, (23, 0)),
-    Line::Gives(Call::Request(1), ACCEPTED),
-    Line::Gives(Call::Request(1), (13, 1)),
-    Line::Gives(Call::Leave(1), (14, 1)),
+    Line::Gives(Call::Request(0), Err((12, 0))),
+    Line::Gives(Call::Event(Event::Request(3)), Err((12, 3))),
+    Line::Gives(Call::RequestRound, Err((23, 0))),
+    Line::Gives(Call::Request(1), Ok(())),
+    Line::Gives(Call::Request(1), Err((13, 1))),
+    Line::Gives(Call::Leave(1), Err((14, 1))),
     Line::Section(1, Section::Asking),
-    Line::Gives(Call::Event(Event::Step(1)), ACCEPTED),
-    Line::Figures(1, (1, 0, 4, 6)),
-    Line::Figures(2, (0, 0, 0, 6)),
+    Line::Gives(Call::Event(Event::Step(1)), Ok(())),
+    Line::Figures(
+        1,
+        Counts {
+            steps: 1,
+            entries: 0,
+            refused: 4,
+            heard: 6,
+        },
+    ),
+    Line::Figures(
+        2,
+        Counts {
+            steps: 0,
+            entries: 0,
+            refused: 0,
+            heard: 6,
+        },
+    ),
     Line::Sizes(2, 3, 1),
     Line::Cell(1, Mark::Empty),
 ];
@@ -48,37 +72,61 @@ const REFUSED: &[Line] = &[
 // Alone an agent looks four times and puts three marks, and then holds; leaving, it reads and clears three cells. Two of
 // the first nine steps come too late, and one of the last seven.
 const WHOLE_TURN: &[Line] = &[
-    Line::Gives(Call::Plan, ACCEPTED),
-    Line::Gives(Call::Request(1), ACCEPTED),
+    Line::Gives(Call::Plan, Ok(())),
+    Line::Gives(Call::Request(1), Ok(())),
     Line::Times(6, Call::Step(1)),
     Line::Holder(None),
     Line::Times(3, Call::Step(1)),
     Line::Holder(Some(1)),
     Line::Cell(2, Mark::Owner(700)),
     Line::Cell(3, Mark::Owner(700)),
-    Line::Figures(1, (7, 1, 2, 10)),
-    Line::Gives(Call::Request(1), (13, 1)),
-    Line::Gives(Call::Leave(1), ACCEPTED),
-    Line::Gives(Call::Leave(1), (14, 1)),
+    Line::Figures(
+        1,
+        Counts {
+            steps: 7,
+            entries: 1,
+            refused: 2,
+            heard: 10,
+        },
+    ),
+    Line::Gives(Call::Request(1), Err((13, 1))),
+    Line::Gives(Call::Leave(1), Ok(())),
+    Line::Gives(Call::Leave(1), Err((14, 1))),
     Line::Section(1, Section::Leaving),
     Line::Times(7, Call::Step(1)),
     Line::Section(1, Section::Idle),
     Line::Cell(3, Mark::Empty),
-    Line::Figures(1, (13, 1, 5, 20)),
+    Line::Figures(
+        1,
+        Counts {
+            steps: 13,
+            entries: 1,
+            refused: 5,
+            heard: 20,
+        },
+    ),
 ];
 
 // Agent 2 looks and puts its mark at its name 1, which is cell 3; nothing of agent 1 changes. The crowd stays at the
 // most.
 const OWN_TABLE: &[Line] = &[
-    Line::Gives(Call::Plan, ACCEPTED),
-    Line::Gives(Call::Request(2), ACCEPTED),
+    Line::Gives(Call::Plan, Ok(())),
+    Line::Gives(Call::Request(2), Ok(())),
     Line::Times(2, Call::Step(2)),
     Line::Cell(1, Mark::Empty),
     Line::Cell(2, Mark::Empty),
     Line::Cell(3, Mark::Owner(41)),
     Line::Section(1, Section::Idle),
-    Line::Figures(1, (0, 0, 0, 3)),
-    Line::Gives(Call::Request(1), ACCEPTED),
+    Line::Figures(
+        1,
+        Counts {
+            steps: 0,
+            entries: 0,
+            refused: 0,
+            heard: 3,
+        },
+    ),
+    Line::Gives(Call::Request(1), Ok(())),
     Line::Sizes(2, 3, 2),
     Line::Times(5, Call::Step(2)),
     Line::Holder(Some(2)),

@@ -29,10 +29,17 @@ pub enum Call {
     Cell(usize),
 }
 
-// Number and first place of a refusal; zeros where there is none.
-pub type Verdict = (u8, usize);
+// Accepted, or the number and the first place of a refusal.
+pub type Verdict = Result<(), (u8, usize)>;
 
-pub const ACCEPTED: Verdict = (0, 0);
+// An agent's steps, entries and refusals, and the calls that were heard.
+#[derive(Clone, Copy, PartialEq, Eq, Debug)]
+pub struct Counts {
+    pub steps: u32,
+    pub entries: u32,
+    pub refused: u32,
+    pub heard: u32,
+}
 
 #[derive(Clone, Copy)]
 pub enum Line {
@@ -40,8 +47,7 @@ pub enum Line {
     Gives(Call, Verdict),
     // The call is made so many times, whatever it answers.
     Times(usize, Call),
-    // An agent's steps, entries and refusals, and the calls that were heard.
-    Figures(usize, (u32, u32, u32, u32)),
+    Figures(usize, Counts),
     Section(usize, Section),
     Holder(Option<usize>),
     Cell(usize, Mark),
@@ -51,8 +57,8 @@ pub enum Line {
 
 fn verdict<T: Drop>(answer: Result<T, Refusal>) -> Verdict {
     match answer {
-        Ok(_) => ACCEPTED,
-        Err(refusal) => (refusal.number(), refusal.places().0),
+        Ok(_) => Ok(()),
+        Err(refusal) => Err((refusal.number(), refusal.places().0)),
     }
 }
 
@@ -81,17 +87,15 @@ fn repeat(rig: &mut Plain, times: usize, call: Call) {
     }
 }
 
-// Four figures; all 9 where there is no such agent.
-fn figures(rig: &Plain, agent: usize) -> (u32, u32, u32, u32) {
-    match rig.figures(agent) {
-        Ok(figures) => (
-            figures.steps,
-            figures.entries,
-            figures.refused,
-            figures.heard,
-        ),
-        Err(_) => (9, 9, 9, 9),
-    }
+// What is counted of an agent, if there is one.
+fn counted(rig: &Plain, agent: usize) -> Option<Counts> {
+    let figures = rig.figures(agent).ok()?;
+    Some(Counts {
+        steps: figures.steps,
+        entries: figures.entries,
+        refused: figures.refused,
+        heard: figures.heard,
+    })
 }
 
 fn holds(rig: &mut Plain, line: Line) -> Result<(), Fail> {
@@ -101,7 +105,7 @@ fn holds(rig: &mut Plain, line: Line) -> Result<(), Fail> {
             repeat(rig, times, call);
             Ok(())
         }
-        Line::Figures(agent, expected) => check_eq(figures(rig, agent), expected),
+        Line::Figures(agent, expected) => check_eq(counted(rig, agent), Some(expected)),
         Line::Section(agent, expected) => check_eq(rig.section(agent).ok(), Some(expected)),
         Line::Holder(expected) => check_eq(rig.holder(), expected),
         Line::Cell(name, expected) => check_eq(rig.cell(name).ok(), Some(expected)),

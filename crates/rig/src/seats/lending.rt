@@ -15,10 +15,7 @@ impl<P: Copy> Seats<P> {
     pub(crate) fn get(&self, k: usize) -> Option<&Seat<P>>
         ensures value { option_map (λ x. x.now) result ≡ named (seated_in self.now) k }
     {
-        if k == 0 {
-            return None;
-        }
-        self.items.get(k - 1)
+        self.items.get(k.checked_sub(1)?)
     }
 
     // The seat of agent k, to be changed.
@@ -26,9 +23,6 @@ impl<P: Copy> Seats<P> {
         ensures* lent { sem 𝓛 (follows_so (the_row P.row) (seat-row P.row) self.entry.ghost_name (name_of result) (λ w n. is_some result ≡ true → seated_in n ≡ slice_set (seated_in self.old) (k - 1) w) (λ n. seated_in n ≡ seated_in self.old)) }
         ensures found { option_map (λ x. x.now) result ≡ named (seated_in self.old) k }
     {
-        if k == 0 {
-            return None;
-        }
-        self.items.get_mut(k - 1)
+        self.items.get_mut(k.checked_sub(1)?)
     }
 }

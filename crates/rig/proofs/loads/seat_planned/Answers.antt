@@ -1,10 +1,8 @@
-use Rattle.std.proofs.Common.{rules, ◌≡◌, ap, subst, ◌∙◌}
+use Rattle.std.proofs.Common.{rules, subst}
 use Rattle.plan.specs.Plans.{model}
 use Rattle.model.specs.Loads.{seat_of}
 use Rattle.model.specs.Meanings.{meaning_of}
-use Rattle.rig.specs.Bounds.{peak}
 use Rattle.rig.specs.Seating.{seated_in}
-use Rattle.rig.specs.Worlds.{seat_over}
 use Rattle.rig.proofs.SeatingLaws.{Seated, made_seated}
 use Rattle.rig.proofs.loads.seat_planned.Goals as goal
 

@@ -1,10 +1,8 @@
-use Rattle.std.proofs.Common.{◌≡◌, ◌+◌, is_some, Ok, Err, sym, ap, refl, ◌∙◌, arith}
+use Rattle.std.proofs.Common.{◌+◌, is_some, Ok, Err, sym, ap, ◌∙◌, arith}
 use Rattle.std.proofs.lemmas.Result.{err_from_is_err_and}
 use Rattle.model.specs.Meanings.{meaning_of}
-use Rattle.model.specs.Rigs.{after_check}
 use Rattle.numbers.specs.Names.{named}
 use Rattle.rig.specs.Seating.{seated_in}
-use Rattle.rig.specs.Worlds.{seat_over}
 use Rattle.rig.proofs.BoundLaws.{peak_below, busiest_put, peak_acted, peak_kept}
 use Rattle.rig.proofs.CallLaws.{at_none}
 use Rattle.rig.proofs.MoveLaws.{unmoved, acted_answer, acted_granted, acted_refused}

@@ -1,6 +1,6 @@
-use Rattle.std.proofs.Common.{◌≡◌, ℕ, ◌+◌, ◌-◌, sym, refl, ap, ◌∙◌, arith}
+use Rattle.std.proofs.Common.{◌≡◌, ◌+◌, ◌-◌, sym, ap, ◌∙◌, arith}
 use Rattle.model.specs.Meanings.{meaning_of}
-use Rattle.model.specs.Rigs.{World, moved, turned_away, after_check}
+use Rattle.model.specs.Rigs.{moved, turned_away, after_check}
 use Rattle.model.specs.Rounds.{given, in_turn}
 use Rattle.rig.specs.Worlds.{world}
 use Rattle.rig.proofs.RoundLaws.{heard_in_turn, heard_heard}

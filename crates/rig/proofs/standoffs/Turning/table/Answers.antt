@@ -1,4 +1,4 @@
-use Rattle.std.proofs.Common.{rules, ℕ, ◌+◌, ◌≤◌, cond, leb, length, arith}
+use Rattle.std.proofs.Common.{rules, ℕ, ◌≤◌, cond, leb, arith}
 use Rattle.model.specs.Loads.{turned}
 use Rattle.rig.proofs.TableLaws.{made_filled, filled_front}
 use Rattle.rig.proofs.standoffs.Turning.table.Goals as goal
