@@ -1,7 +1,7 @@
 // The lines of a report, each put after what is written on a sheet.
 ghost use Rattle.std.specs.Prelude.{◌≡◌, ◌<◌, ◌≤◌, ◌++◌, length};
 ghost use Rattle.cells.specs.Marks.{mark_words};
-ghost use Rattle.report.specs.Lines.{section_word, sizes_line, agent_line, cell_line, last_line};
+ghost use Rattle.report.specs.Lines.{sizes_line, agent_line, cell_line, last_line};
 ghost use Rattle.report.specs.Sheets.{Puts};
 
 use crate::sheet::Sheet;
@@ -9,18 +9,6 @@ use cells::Mark;
 use itoa::Integer;
 use model::Figures;
 use rules::Section;
-
-// The word for a section.
-fn section_word(section: Section) -> &'static str
-    ensures value { result.now ≡ section_word section }
-{
-    match section {
-        Section::Idle => "idle",
-        Section::Asking => "asking",
-        Section::Holding => "holding",
-        Section::Leaving => "leaving",
-    }
-}
 
 impl Sheet {
     // A label and the number behind it.
@@ -47,14 +35,14 @@ impl Sheet {
     {
         self.labelled("agent ", agent);
         self.text(" ");
-        self.text(section_word(section));
+        self.text(section.word());
         self.labelled(" steps ", figures.steps);
         self.labelled(" entries ", figures.entries);
         self.labelled(" refused ", figures.refused);
         self.text("\n");
     }
 
-    // `empty`, `owner 41` or `rung 2`.
+    // `empty`, `owner 41` or `rung 2`. No `write!` by Mark's Display: it may fail, and a sheet takes each mark.
     fn mark(&mut self, mark: Mark)
         ensures after { Puts self.old (mark_words mark) self.new }
         ensures short { length (mark_words mark) ≤ 11 }
