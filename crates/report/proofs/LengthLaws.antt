@@ -13,7 +13,7 @@ use Rattle.model.specs.Rigs.{section_answer, figures_answer}
 use Rattle.model.specs.declared.Figures.{Figures}
 use Rattle.rig.specs.Worlds.{rig_of}
 use Rattle.rig.specs.declared.rig.Rig.{Rig}
-use Rattle.report.specs.Lines.{section_word, holder_number, counted, line_end, sizes_line, agent_line, cell_line, last_line}
+use Rattle.report.specs.Lines.{section_word, holder_number, counted, sizes_line, agent_line, cell_line, last_line}
 use Rattle.report.specs.Reports.{lines, agent_told, agent_lines}
 use Rattle.report.proofs.BoundLaws.{Small, figures_small}
 use Rattle.report.proofs.LineLaws.{lines_more}

@@ -1,5 +1,5 @@
 -- Lines put one after another. Assumes nothing.
-use Rattle.std.proofs.Common.{◌≡◌, ℕ, zero, suc, ◌+◌, ◌-◌, ◌≤◌, List, ◌++◌, sym, refl, ap, ◌∙◌, arith}
+use Rattle.std.proofs.Common.{◌≡◌, ℕ, zero, suc, ◌+◌, ◌-◌, ◌≤◌, List, ◌++◌, ap, ◌∙◌, arith}
 use Rattle.report.specs.Reports.{lines}
 use Rattle.report.specs.Sheets.{Puts}
 use Rattle.report.proofs.TextLaws.{◌then◌, puts_none, puts_same}

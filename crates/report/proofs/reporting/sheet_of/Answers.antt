@@ -1,6 +1,6 @@
 use Rattle.std.proofs.Common.{◌≡◌, ◌<◌, ◌≤◌, [], ◌++◌, length, sym, subst, ◌∙◌, arith}
 use Rattle.model.specs.Rigs.{is_holding, section_at}
-use Rattle.rig.specs.Worlds.{world, rig_of}
+use Rattle.rig.specs.Worlds.{world}
 use Rattle.report.specs.Lines.{sizes_line, last_line, holder_number}
 use Rattle.report.specs.Reports.{agent_lines, cell_lines, report_text}
 use Rattle.report.specs.Sheets.{Puts}
@@ -20,7 +20,7 @@ returns g c =
     let last = last_line c.crowd.result c.holder.result in
     let put : Puts [] (first ++ (agents ++ (cells ++ last))) c.last_line.new.self =
     subst (λ t. Puts t (first ++ (agents ++ (cells ++ last))) c.last_line.new.self) c.new-sheet.ensures.value
-        (c.sizes_line.ensures.after then c.write_agents.ensures.after then c.write_cells.ensures.after then c.last_line.ensures.after) in
+    (c.sizes_line.ensures.after then c.write_agents.ensures.after then c.write_cells.ensures.after then c.last_line.ensures.after) in
     let low : holder_number c.holder.result < 100 = subst (λ o. holder_number o < 100) (sym c.holder.ensures.value) (first_small (λ k. is_holding (section_at w.rig k)) n few) in
     let sizes = sizes_short c.agents.result c.cells.result c.own_number.result (omega arith) (omega arith) (omega arith) in
     let each = agents_short c.args.rig.now n few in

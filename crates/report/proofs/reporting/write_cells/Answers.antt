@@ -1,4 +1,6 @@
-use Rattle.std.proofs.Common.{le_trans, arith}
+use Rattle.std.proofs.Common.{◌*◌, ◌≤◌, length, arith}
+use Rattle.rig.specs.Worlds.{world}
+use Rattle.report.specs.Reports.{cell_lines}
 use Rattle.report.proofs.LengthLaws.{lines_none_short, lines_longer, lines_all_short}
 use Rattle.report.proofs.LineLaws.{lines_none, lines_put, lines_all}
 use Rattle.report.proofs.reporting.write_cells.Goals as goal
@@ -16,13 +18,16 @@ loop-name-preserved g c = (
 
 pub returns : goal.returns
 returns g c =
-    let short = lines_all_short _ c.loop-name.name _ 20 (omega arith) c.loop-name.invariant.3 in
-    record { after = lines_all _ c.loop-name.name _ (omega arith) c.loop-name.invariant.2; short = le_trans short (omega arith) }
+    let w = world g.S.CellStore.marks c.args.rig.now in
+    let short : length (cell_lines w w.rig.cells) ≤ 20 * w.rig.cells = lines_all_short _ c.loop-name.name _ 20 (omega arith) c.loop-name.invariant.3 in
+    record { after = lines_all _ c.loop-name.name _ (omega arith) c.loop-name.invariant.2; short = omega (arith, short) }
 
 pub returns-2 : goal.returns-2
 returns-2 g c =
-    let short = lines_longer _ c.loop-name.name _ 20 c.loop-name.invariant.0 (omega arith) c.loop-name.invariant.3 (c.write_cell.ensures.short (omega arith)) in
+    let w = world g.S.CellStore.marks c.args.rig.now in
+    let short : length (cell_lines w w.rig.cells) ≤ 20 * w.rig.cells =
+    lines_longer _ c.loop-name.name _ 20 c.loop-name.invariant.0 (omega arith) c.loop-name.invariant.3 (c.write_cell.ensures.short (omega arith)) in
     record {
       after = lines_put _ c.loop-name.name _ c.loop-name.invariant.0 (omega arith) c.loop-name.invariant.2 c.write_cell.ensures.after;
-      short = le_trans short (omega arith);
+      short = omega (arith, short);
     }
