@@ -3,16 +3,8 @@
 #![tactic(auto)]
 
 use std::fs;
-use trials::{MAX_REPORT, trial_report};
-
-fn show_trial(rt: &HostRuntime, file: &[u8]) -> anyhow::Result<()> {
-    let mut buffer = [0; MAX_REPORT];
-    match trial_report(rt.alloc(), file, &mut buffer)? {
-        Ok(length) => rt.stdout().write_all(&buffer[..length])?,
-        Err(refusal) => rt.println(refusal)?,
-    }
-    Ok(())
-}
+use std::io::Write;
+use trials::trial_text;
 
 fn run(rt: &HostRuntime) -> anyhow::Result<()> {
     let names = fs::read_to_string(rt, "names.txt")?;
@@ -20,7 +12,8 @@ fn run(rt: &HostRuntime) -> anyhow::Result<()> {
         let path = format!(in rt.alloc(); "{name}.plan")?;
         let file = fs::read(rt, path)?;
         println!(rt; "{name}")?;
-        show_trial(rt, file.as_slice())?;
+        let text = trial_text(rt.alloc(), &file)?;
+        rt.stdout().write_all(&text)?;
     }
     Ok(())
 }
