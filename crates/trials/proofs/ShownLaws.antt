@@ -12,7 +12,7 @@ use Rattle.model.specs.Loads.{load_answer}
 use Rattle.report.specs.Lines.{line_end}
 use Rattle.report.specs.Reports.{copy_answer, copy_after}
 use Rattle.trials.specs.Trials.{unless_refused, shown, blank_over, run_text, file_answer, file_length, file_buffer, file_shown, trial_answer, trial_length, trial_buffer, trial_text}
-use Rattle.trials.proofs.RuleLaws.{Pick, picked}
+use Rattle.trials.proofs.RuleLaws.{picked}
 
 copied : (b : Bool) (text buffer : List ℕ) (n : ℕ) → Ok n ≡ cond b (Ok (length text)) (Err BufferTooShort) → take n (cond b (text ++ drop (length text) buffer) buffer) ≡ text
 copied true text buffer n e = let same : n ≡ length text = cc e in ap (λ m. take m (text ++ drop (length text) buffer)) same ∙ take-append_seam text (drop (length text) buffer)
