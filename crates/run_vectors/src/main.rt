@@ -6,18 +6,14 @@ use std::fs;
 use std::io::Write;
 use trials::trial_text;
 
-fn run(rt: &HostRuntime) -> anyhow::Result<()> {
-    let names = fs::read_to_string(rt, "names.txt")?;
+fn main(rt: HostRuntime) -> anyhow::Result<()> {
+    let names = fs::read_to_string(&rt, "names.txt")?;
     for name in names.lines() {
         let path = format!(in rt.alloc(); "{name}.plan")?;
-        let file = fs::read(rt, path)?;
-        println!(rt; "{name}")?;
+        let file = fs::read(&rt, path)?;
         let text = trial_text(rt.alloc(), &file)?;
+        println!(rt; "{name}")?;
         rt.stdout().write_all(&text)?;
     }
     Ok(())
-}
-
-fn main(rt: HostRuntime) -> anyhow::Result<()> {
-    run(&rt)
 }

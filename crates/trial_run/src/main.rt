@@ -34,7 +34,7 @@ fn run(rt: &HostRuntime) -> anyhow::Result<()> {
     Ok(())
 }
 
-// As in standoff: a crate for these lines would take the name and the answer, and say no less.
+// The five lines of `standoff`, too: a function for both would need a crate of its own, and say no less.
 fn main(rt: HostRuntime) -> ExitCode {
     let Err(error) = run(&rt) else {
         return ExitCode::SUCCESS;
