@@ -55,11 +55,11 @@ fn write_cells<S: CellStore, R: Rule>(rig: &Rig<S, R>, sheet: &mut Sheet)
 
 // The whole report on a sheet.
 fn sheet_of<S: CellStore, R: Rule>(rig: &Rig<S, R>) -> Sheet
-    ensures value { result ≡ report_text R.number (world S.marks rig.now) }
-    ensures fits { length (report_text R.number (world S.marks rig.now)) ≤ 2336 }
+    ensures value { result ≡ report_text R.NUMBER (world S.marks rig.now) }
+    ensures fits { length (report_text R.NUMBER (world S.marks rig.now)) ≤ 2336 }
 {
     let mut sheet = Sheet::new();
-    sheet.sizes_line(rig.agents(), rig.cells(), R::own_number());
+    sheet.sizes_line(rig.agents(), rig.cells(), R::NUMBER);
     write_agents(rig, &mut sheet);
     write_cells(rig, &mut sheet);
     sheet.last_line(rig.crowd(), rig.holder());
@@ -69,11 +69,11 @@ fn sheet_of<S: CellStore, R: Rule>(rig: &Rig<S, R>) -> Sheet
 // Writes the report into the buffer and answers how many bytes it has; a buffer of MAX_REPORT bytes is long enough for
 // every rig.
 pub fn report<S: CellStore, R: Rule>(rig: &Rig<S, R>, buffer: &mut [u8]) -> Result<usize, Refusal>
-    ensures value { result ≡ copy_answer (report_text R.number (world S.marks rig.now)) buffer.old }
-    ensures after { buffer.new ≡ copy_after (report_text R.number (world S.marks rig.now)) buffer.old }
-    ensures enough { 2336 ≤ length buffer.old → result ≡ Ok (length (report_text R.number (world S.marks rig.now))) }
+    ensures value { result ≡ copy_answer (report_text R.NUMBER (world S.marks rig.now)) buffer.old }
+    ensures after { buffer.new ≡ copy_after (report_text R.NUMBER (world S.marks rig.now)) buffer.old }
+    ensures enough { 2336 ≤ length buffer.old → result ≡ Ok (length (report_text R.NUMBER (world S.marks rig.now))) }
     ensures whole { Whole (world S.marks rig.now) }
-    ensures fits { length (report_text R.number (world S.marks rig.now)) ≤ 2336 }
+    ensures fits { length (report_text R.NUMBER (world S.marks rig.now)) ≤ 2336 }
 {
     sheet_of(rig).copy_to(buffer)
 }

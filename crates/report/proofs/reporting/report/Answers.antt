@@ -7,7 +7,7 @@ use Rattle.report.proofs.reporting.report.Goals as goal
 
 pub returns-clause-enough : goal.returns-clause-enough
 returns-clause-enough g c = λ long.
-    let text = report_text g.R.Rule.number (world g.S.CellStore.marks c.args.rig.now) in
+    let text = report_text g.R.Rule.NUMBER (world g.S.CellStore.marks c.args.rig.now) in
     c.copy_to.ensures.value ∙ ap (λ t. copy_answer t c.args.buffer.now) c.sheet_of.ensures.value ∙ copy_goes text c.args.buffer.now (omega (arith, long, c.sheet_of.ensures.fits))
 
 pub returns-clause-whole : goal.returns-clause-whole
