@@ -1,2 +1,3 @@
 pub mod ListLaws
 pub mod ReplaceLaws
+pub mod SectionLaws

@@ -1,5 +1,9 @@
 // What is recorded of an agent.
+ghost use Rattle.std.specs.Prelude.{Some};
+ghost use Rattle.rules.specs.Sections.{section_word};
+
 use cells::Mark;
+use std::fmt;
 
 // Where an agent stands in its use of the profile window.
 #[derive(Clone, Copy, PartialEq, Eq, Debug)]
@@ -8,6 +12,20 @@ pub enum Section {
     Asking,
     Holding,
     Leaving,
+}
+
+// `idle`, `asking`, `holding` or `leaving`.
+impl fmt::Display for Section {
+    ghost output = { λ s. Some (section_word s) };
+
+    fn fmt<W: fmt::Write>(&self, f: &mut fmt::Formatter<W>) -> fmt::Result {
+        match self {
+            Section::Idle => f.write_str("idle"),
+            Section::Asking => f.write_str("asking"),
+            Section::Holding => f.write_str("holding"),
+            Section::Leaving => f.write_str("leaving"),
+        }
+    }
 }
 
 // An agent's record: its section and identity; its phase, of which each rule has its own; one local name; a rung; the
