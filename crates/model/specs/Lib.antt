@@ -1,5 +1,6 @@
 pub mod Calls
 pub mod Examples
+pub mod Letters
 pub mod Loads
 pub mod Meanings
 pub mod Rigs

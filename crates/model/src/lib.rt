@@ -8,6 +8,11 @@ ghost use Rattle.model.specs.Meanings.{read_and_write, by_majority, by_ladder};
 
 use refusal::Refusal;
 
+mod letters;
+mod rounds;
+
+pub use letters::UnknownLetter;
+
 // What a round gives to each of the agents that move together.
 #[derive(Clone, Copy, PartialEq, Eq, Debug)]
 pub enum Round {
