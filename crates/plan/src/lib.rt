@@ -12,4 +12,4 @@ mod rule;
 
 pub use event::Event;
 pub use plan::Plan;
-pub use rule::rule_asked;
+pub use rule::{PublishedRule, UnknownRule, rule_asked};

@@ -27,9 +27,3 @@ module _ {P : Type 0} (R : Meaning P) where
   pub run_last : (es : List Event) (i : ℕ) (w v end : World P) (o : Option Event) → 1 ≤ i → i ≤ length es → length es ≤ i → o ≡ named es i → v ≡ after_some R w o → run R w (drop (i - 1) es) ≡ end → v ≡ end
   run_last es i w v end o from upto last found is inv =
       sym (at_drop_all (run R v) es (i + 1 - 1) (omega arith)) ∙ run_more es i w v end o from upto found is inv
-
-  pub rounds_more : (rs : List Round) (i : ℕ) (d : Round) (w v end : World P) → i < length rs → v ≡ after_round R w (get_or rs i d) → rounds R w (drop i rs) ≡ end → rounds R v (drop (i + 1) rs) ≡ end
-  rounds_more rs i d w v end less is inv = ap (λ u. rounds R u (drop (i + 1) rs)) is ∙ sym (at_drop_more (rounds R w) rs i d less) ∙ inv
-
-  pub rounds_all : (rs : List Round) (i : ℕ) (w end : World P) → length rs ≤ i → rounds R w (drop i rs) ≡ end → w ≡ end
-  rounds_all rs i w end past inv = sym (at_drop_all (rounds R w) rs i past) ∙ inv
