@@ -6,10 +6,11 @@
 mod steps;
 
 use anyhow::anyhow;
-use cells::{CellStore, Mark};
+use cells::CellStore;
 use mark_table::MarkTable;
 use record_file::RecordFile;
 use renumbered::Renumbered;
+use std::alloc::Global;
 use std::io::Read;
 use steps::STEPS;
 
@@ -30,7 +31,9 @@ fn take_steps<S: CellStore>(rt: &impl Print, store: &mut S) -> anyhow::Result<()
 
 fn show<S: CellStore>(rt: &impl Print, title: &str, store: &S) -> anyhow::Result<()> {
     for name in 1..=store.count() {
-        let mark = store.read(name).unwrap_or(Mark::Empty);
+        let mark = store
+            .read(name)
+            .map_err(|refusal| anyhow!("{title}: {refusal}"))?;
         println!(rt; "{title} {name} {mark}")?;
     }
     Ok(())
@@ -38,40 +41,28 @@ fn show<S: CellStore>(rt: &impl Print, title: &str, store: &S) -> anyhow::Result
 
 // How many cells hold the same mark in both stores.
 fn agreeing<S: CellStore, T: CellStore>(one: &S, other: &T) -> usize {
-    let mut same = 0usize;
-    for name in 1..=one.count() {
-        let here = one.read(name).unwrap_or(Mark::Empty);
-        let there = other.read(name).unwrap_or(Mark::Empty);
-        if here.is(there) {
-            same = same.saturating_add(1);
-        }
-    }
-    same
+    (1..=one.count())
+        .filter(|name| one.read(*name) == other.read(*name))
+        .count()
 }
 
 // The names backwards: the first is the last below.
-fn turned<S: CellStore + Drop>(store: S, row: &mut Vec<usize>) -> anyhow::Result<Renumbered<S>> {
-    let mut above = Renumbered::new(store);
-    row.clear();
-    for name in (1..=above.count()).rev() {
-        row.push(name)?;
-    }
-    match above.renumber(row.as_slice()) {
-        Ok(()) => Ok(above),
-        Err(_) => Err(anyhow!("the names backwards were refused")),
-    }
+fn turned<S: CellStore + Drop>(heap: Global, store: S) -> anyhow::Result<Renumbered<S>> {
+    let row: Vec<usize> = (1..=store.count()).rev().collect(heap)?;
+    Renumbered::with_row(store, row.as_slice()).map_err(|refusal| anyhow!(
+        "the names backwards: {refusal}"
+    ))
 }
 
 fn run(rt: &HostRuntime) -> anyhow::Result<()> {
     let mut image = Vec::new(rt.alloc());
     rt.stdin().take(MOST).read_to_end(&mut image)?;
-    let mut row = Vec::new(rt.alloc());
-    let mut cells = turned(RecordFile::new(image.as_mut_slice()), &mut row)?;
+    let mut cells = turned(rt.alloc(), RecordFile::new(image.as_mut_slice()))?;
     let count = cells.count();
     println!(rt; "{count} cells")?;
     take_steps(rt, &mut cells)?;
     show(rt, "cell", &cells)?;
-    let mut table = turned(MarkTable::new(count), &mut row)?;
+    let mut table = turned(rt.alloc(), MarkTable::new(count))?;
     take_steps(rt, &mut table)?;
     let same = agreeing(&cells, &table);
     println!(rt; "mark table agrees in {same}")?;

@@ -1,12 +1,12 @@
 // The bytes of a record file, and records in no good form.
 use cells::{CellStore, Mark};
-use record_file::{RecordFile, decode_record, encode_mark};
+use record_file::{Record, RecordFile};
 use std::test::Fail;
 use test_checks::check_eq;
 
 fn decodes(cases: &[([u8; 4], Mark)]) -> Result<(), Fail> {
     for (bytes, mark) in cases {
-        check_eq(decode_record(*bytes), *mark)?;
+        check_eq(Mark::from(Record(*bytes)), *mark)?;
     }
     Ok(())
 }
@@ -21,9 +21,9 @@ fn good_records() -> Result<(), Fail> {
         ([2, 0, 0, 1], Mark::Rung(1)),
         ([2, 0, 0, 16], Mark::Rung(16)),
     ])?;
-    check_eq(encode_mark(Mark::Empty), [0, 0, 0, 0])?;
-    check_eq(encode_mark(Mark::Owner(700)), [1, 0, 2, 188])?;
-    check_eq(encode_mark(Mark::Rung(16)), [2, 0, 0, 16])
+    check_eq(Record::from(Mark::Empty), Record([0, 0, 0, 0]))?;
+    check_eq(Record::from(Mark::Owner(700)), Record([1, 0, 2, 188]))?;
+    check_eq(Record::from(Mark::Rung(16)), Record([2, 0, 0, 16]))
 }
 
 #[test]
@@ -48,12 +48,7 @@ fn malformed_records() -> Result<(), Fail> {
 // Makes a record file of some bytes: how many cells it has, and how many of the bytes are zero then.
 fn made(bytes: &mut [u8]) -> (usize, usize) {
     let count = RecordFile::new(bytes).count();
-    let mut zeros = 0usize;
-    for byte in bytes.iter() {
-        if *byte == 0 {
-            zeros = zeros.saturating_add(1);
-        }
-    }
+    let zeros = bytes.iter().filter(|byte| **byte == 0).count();
     (count, zeros)
 }
 

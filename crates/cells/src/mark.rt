@@ -1,6 +1,6 @@
 // What stands in a cell.
-ghost use Rattle.std.specs.Prelude.{◌≡◌, Some};
-ghost use Rattle.cells.specs.Marks.{same_mark, mark_words};
+ghost use Rattle.std.specs.Prelude.{Some};
+ghost use Rattle.cells.specs.Marks.{mark_words};
 
 use std::fmt;
 
@@ -10,15 +10,6 @@ pub enum Mark {
     Empty,
     Owner(u16),
     Rung(u8),
-}
-
-impl Mark {
-    // Whether this is the same mark as another.
-    pub fn is(self, other: Mark) -> bool
-        ensures value { result ≡ same_mark self other }
-    {
-        self == other
-    }
 }
 
 // `empty`, `owner 41` or `rung 2`.

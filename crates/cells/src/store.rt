@@ -7,7 +7,8 @@ use crate::mark::Mark;
 use refusal::Refusal;
 
 // A store means a list of at most 64 marks, whose names count from 1. Where a store works on lent memory, `lender` is
-// the name under which that memory is followed, and 0 where it works on its own.
+// the name under which that memory is followed, and 0 where it works on its own. Each call that changes a store says
+// itself that this name stays, since a caller knows no more of a call than its clauses.
 pub trait CellStore {
     ghost marks: { Self → List Mark };
 

@@ -12,9 +12,8 @@ impl MarkTable {
     pub fn new(count: usize) -> MarkTable
         ensures value { table_marks result ≡ replicate (min count 64) Empty }
     {
-        let room = [Mark::Empty; 64];
         MarkTable {
-            room,
+            room: [Mark::Empty; 64],
             cells: count.min(64),
         }
     }
@@ -46,7 +45,7 @@ impl CellStore for MarkTable {
         check_mark(old)?;
         check_mark(new)?;
         let there = self.room[name - 1];
-        let found = there.is(old);
+        let found = there == old;
         if found {
             self.room[name - 1] = new;
         }

@@ -3,7 +3,7 @@ ghost use Rattle.std.specs.Prelude.{◌≡◌, ◌≤◌, length};
 
 use cells::Mark;
 
-// Room for 64 marks, of which the first ones are cells.
+// Room for 64 marks, of which the first ones are cells. Not an `ArrayVec`, which could not be `Copy`.
 #[derive(Clone, Copy)]
 pub struct MarkTable {
     pub(crate) room: [Mark; 64],

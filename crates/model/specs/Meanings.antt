@@ -26,7 +26,7 @@ pub record Meaning (P : Type 0) : Type 0 where
 -- what an implementation of the trait `Rule` means: its ghost members
 abbrev pub meaning_of : {S P : Type 0} → Ghosts S P → Meaning P
 meaning_of r = record {
-  number = r.number;
+  number = r.NUMBER;
   loaded = r.loaded;
   asked = r.asked;
   left = r.left;

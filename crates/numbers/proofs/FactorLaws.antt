@@ -119,20 +119,18 @@ smallest_tells_some n m l e =
       divides = smallest_divides m l h.from shared smaller;
     }
 
--- the three clauses of the search, where it finds nothing and where it finds l
+-- the three clauses of the search, from the first
 pub record Answered (n m : ℕ) (r : Option ℕ) : Type 0 where
   pub value : r ≡ smallest_common_factor n m
   pub passes : (is_some r ≡ false) ↔ CoprimeUpTo n m
   pub smallest : IfSome r (SmallestCommonFactor n m)
 
-pub answered_none : (n m : ℕ) → CoprimeUpTo n m → Answered n m None
-answered_none n m h = record { value = sym (smallest_none n m h); passes = (λ _. h, λ _. refl); smallest = tt }
-
-pub answered_some : (n m l : ℕ) → 2 ≤ l → l ≤ n → (gcd l m ≡ 1 → ⊥) → ((k : ℕ) → 2 ≤ k → k < l → gcd k m ≡ 1) → Answered n m (Some l)
-answered_some n m l two low shared smaller =
-    let is = smallest_some n m l two low shared smaller in
+pub answered : (n m : ℕ) (r : Option ℕ) → r ≡ smallest_common_factor n m → Answered n m r
+answered n m None is = let none = smallest_tells_none n m (sym is) in record { value = is; passes = (λ _. none, λ _. refl); smallest = tt }
+answered n m (Some l) is =
+    let h = smallest_tells_some n m l (sym is) in
     record {
-      value = sym is;
-      passes = (λ e. absurd (true≢false e), λ h. absurd (shared (h l two low)));
-      smallest = smallest_tells_some n m l is;
+      value = is;
+      passes = (λ e. absurd (true≢false e), λ all. absurd (h.shared (all l h.from_two h.up_to)));
+      smallest = h;
     }

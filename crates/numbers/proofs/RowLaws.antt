@@ -118,29 +118,29 @@ module _ (row : ℕ → ℕ) where
           here = λ w. repeats_tells k (misfit_tells k h.passes w);
         }
 
-    -- the three clauses of the search, where it finds nothing and where it finds k
+    -- the four clauses of the search, from the first
     pub record Answered (count : ℕ) (r : Option ℕ) : Type 0 where
       pub value : r ≡ first_misfit row most count
       pub passes : (is_some r ≡ false) ↔ Distinct row most count
       pub complete : is_some r ≡ false → most ≡ count → EveryNumber row count
       pub first : IfSome r (FirstMisfit row most count)
 
-    pub answered_none : (count : ℕ) → ((k : ℕ) → 1 ≤ k → k ≤ count → Fits k) → Answered count None
-    answered_none count h = record { value = sym (first_misfit_none count h); passes = (λ _. distinct_from count h, λ _. refl); complete = λ _ full v. every_number row count v (subst (λ n. Distinct row n count) full (distinct_from count h)); first = tt }
-
-    pub answered_some : (count k : ℕ) → 1 ≤ k → k ≤ count → ((1 ≤ row k) × (row k ≤ most) → repeats row k ≡ true) → ((j : ℕ) → 1 ≤ j → j < k → Fits j) → Answered count (Some k)
-    answered_some count k a b bad before =
-        let is = first_misfit_some count k a b (misfit_true k bad) before in
+    pub answered : (count : ℕ) (r : Option ℕ) → r ≡ first_misfit row most count → Answered count r
+    answered count None is =
+        let d = first_misfit_tells_none count (sym is) in
+        record { value = is; passes = (λ _. d, λ _. refl); complete = λ _ full v. every_number row count v (subst (λ n. Distinct row n count) full d); first = tt }
+    answered count (Some k) is =
+        let h = first_misfit_tells_some count k (sym is) in
         record {
-          value = sym is;
+          value = is;
           passes = (
             λ e. absurd (true≢false e),
             λ d.
-                let f = distinct_fits count d k a b in
-                absurd (true≢false (sym (bad (f.low, f.high)) ∙ f.new)),
+                let m = h.here (d.inside k h.from_one h.up_to) in
+                absurd (d.apart m.0 k m.1 m.2 h.up_to m.3),
           );
           complete = λ e. absurd (true≢false e);
-          first = first_misfit_tells_some count k is;
+          first = h;
         }
 
     -- a first misfit is what the search finds

@@ -2,6 +2,8 @@
 ghost use Rattle.std.specs.Prelude.{◌≡◌, false, ◌↔◌, is_some, IfSome};
 ghost use Rattle.numbers.specs.Factors.{gcd, GreatestCommonDivisor, smallest_common_factor, CoprimeUpTo, SmallestCommonFactor};
 
+use crate::sizes::Sizes;
+
 // Euclid's algorithm.
 pub fn greatest_common_divisor(a: usize, b: usize) -> usize
     ensures value { result ≡ gcd a b }
@@ -10,23 +12,16 @@ pub fn greatest_common_divisor(a: usize, b: usize) -> usize
     let mut x = a;
     let mut y = b;
     while y != 0 {
-        let rest = x % y;
-        x = y;
-        y = rest;
+        (x, y) = (y, x % y);
     }
     x
 }
 
-// The smallest number from 2 to `agents` that has a common factor with `cells`. Where there is none, the cell count passes.
-pub fn smallest_common_factor(agents: usize, cells: usize) -> Option<usize>
-    ensures value { result ≡ smallest_common_factor agents cells }
-    ensures passes { (is_some result ≡ false) ↔ CoprimeUpTo agents cells }
-    ensures smallest { IfSome result (SmallestCommonFactor agents cells) }
+// The smallest number from 2 to the number of agents that has a common factor with the number of cells. Where there is none, the cell count passes.
+pub fn smallest_common_factor(sizes: Sizes) -> Option<usize>
+    ensures value { result ≡ smallest_common_factor sizes.agents sizes.cells }
+    ensures passes { (is_some result ≡ false) ↔ CoprimeUpTo sizes.agents sizes.cells }
+    ensures smallest { IfSome result (SmallestCommonFactor sizes.agents sizes.cells) }
 {
-    for factor in 2..=agents {
-        if greatest_common_divisor(factor, cells) != 1 {
-            return Some(factor);
-        }
-    }
-    None
+    (2..=sizes.agents).find(|factor| greatest_common_divisor(*factor, sizes.cells) != 1)
 }

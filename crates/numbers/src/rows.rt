@@ -2,6 +2,8 @@
 ghost use Rattle.std.specs.Prelude.{◌≡◌, ℕ, false, ◌↔◌, is_some, IfSome};
 ghost use Rattle.numbers.specs.Rows.{repeats, first_misfit, Distinct, EveryNumber, FirstMisfit};
 
+use crate::names::is_name;
+
 // Numbers that stand at places from 1 on.
 pub trait Row {
     ghost numbers: { Self → ℕ → ℕ };
@@ -15,12 +17,7 @@ fn repeated<R: Row>(row: &R, place: u16) -> bool
     ensures value { result ≡ repeats (R.numbers row.now) place }
 {
     let number = row.number_at(place);
-    for earlier in 1..place {
-        if row.number_at(earlier) == number {
-            return true;
-        }
-    }
-    false
+    (1..place).any(|earlier| row.number_at(earlier) == number)
 }
 
 // The first of the places 1 to `count` whose number is not from 1 to `most` or repeats an earlier one.
@@ -30,11 +27,7 @@ pub fn first_misfit<R: Row>(row: &R, most: usize, count: u16) -> Option<usize>
     ensures complete { is_some result ≡ false → most ≡ count → EveryNumber (R.numbers row.now) count }
     ensures first { IfSome result (FirstMisfit (R.numbers row.now) most count) }
 {
-    for place in 1..=count {
-        let number = row.number_at(place);
-        if number < 1 || number > most || repeated(row, place) {
-            return Some(place as usize);
-        }
-    }
-    None
+    (1..=count)
+        .find(|place| !is_name(row.number_at(*place), most) || repeated(row, *place))
+        .map(usize::from)
 }

@@ -1,5 +1,5 @@
 -- An accepted plan answers with the file's own bytes, and they make a trial. Assumes nothing.
-use Rattle.std.proofs.Common.{◌≡◌, ℕ, ◌≤◌, true, eqb, ◌↔◌, List, is_ok, IfOk, Some, Ok, Err, Result, sym, refl, ap, ◌∙◌, subst, ⊎_elim, arith, MatchOption}
+use Rattle.std.proofs.Common.{◌≡◌, ℕ, ◌≤◌, true, eqb, ◌↔◌, List, is_ok, IfOk, Some, Ok, Err, Result, sym, refl, ap, ◌∙◌, subst, ⊎_elim, arith, MatchOption, MatchResult}
 use Rattle.std.proofs.lemmas.Bool.{true≢false, cases_Bool, eqb-true, eqb-false, cond-true, cond-false}
 use Rattle.numbers.specs.Names.{named, listed}
 use Rattle.numbers.specs.Rows.{Distinct}
@@ -8,7 +8,7 @@ use Rattle.numbers.proofs.Pigeonhole.{every_number, apart_both}
 use Rattle.refusal.specs.declared.Refusal.{Refusal}
 use Rattle.plan.specs.Accepted.{Between, Acceptable, Fault, event_kind, event_agent, Faithful}
 use Rattle.plan.specs.Checks.{header_of, decoded, answered}
-use Rattle.plan.specs.Plans.{identity_at, entry_at, kind_at, agent_at, event_of, event_at, plan_at, model, entry_in, entry_named}
+use Rattle.plan.specs.Plans.{identity_at, entry_at, kind_at, agent_at, event_of, event_at, Sayings, plan_at, model, entry_in, entry_named}
 use Rattle.plan.specs.declared.plan.Plan.{Plan}
 use Rattle.plan.proofs.Judged.{told, accepts, refuses}
 
@@ -91,6 +91,22 @@ module _ (rule : ℕ) (f : List ℕ) (good : Acceptable rule f) where
     in_range = λ k x a b w. subst (λ o. MatchOption o ⊥ (Between 1 m)) (sym (named_entry k x a b w)) ((table_good k a b).inside x w.0 w.1);
   }
 
+-- an accepted file makes a trial, and is refused with nothing
+pub accepted_plan : (rule : ℕ) (f : List ℕ) (p : Sayings) → Ok p ≡ decoded rule f → Acceptable rule f × Faithful f p
+accepted_plan rule f p is =
+    let good : Acceptable rule f = subst (λ a. MatchResult a (λ _. Acceptable rule f) (Fault rule f)) (sym is) (told rule f).tells in
+    let same : p ≡ plan_at (header_of f) f = let e = is ∙ accepts rule f good in cc in
+    (good, subst (Faithful f) (sym same) (faithful rule f good))
+
+pub not_refused : {A : Type 0} {p : A} (rule : ℕ) (f : List ℕ) → Acceptable rule f → (e : Refusal) → (Ok p ≡ Err e) ↔ Fault rule f e
+not_refused rule f good e = (
+  λ never. let z : ◌≡◌ {A = ℕ} 0 1 = cc in absurd (omega arith),
+  λ bad.
+      let never = sym (accepts rule f good) ∙ refuses rule f e bad in
+      let z : ◌≡◌ {A = ℕ} 0 1 = cc in
+      absurd (omega arith),
+)
+
 -- all that a decoder's answer says, from the equation
 pub record Judgement (rule : ℕ) (f : List ℕ) (r : Result Plan Refusal) : Type 0 where
   pub accepted : (is_ok r ≡ true) ↔ Acceptable rule f
@@ -99,21 +115,10 @@ pub record Judgement (rule : ℕ) (f : List ℕ) (r : Result Plan Refusal) : Typ
 
 pub judgement : (rule : ℕ) (f : List ℕ) (r : Result Plan Refusal) → answered r ≡ decoded rule f → Judgement rule f r
 judgement rule f (Ok p) is =
-    let good : Acceptable rule f = subst (λ a. Rattle.std.specs.Result.MatchResult a (λ _. Acceptable rule f) (Fault rule f)) (sym is) (told rule f).tells in
-    let same : model p ≡ plan_at (header_of f) f = let e = is ∙ accepts rule f good in cc in
-    record {
-      accepted = (λ _. good, λ _. refl);
-      refused = λ e. (
-        λ never. let z : ◌≡◌ {A = ℕ} 0 1 = cc in absurd (omega arith),
-        λ bad.
-            let never = is ∙ refuses rule f e bad in
-            let z : ◌≡◌ {A = ℕ} 0 1 = cc in
-            absurd (omega arith),
-      );
-      faithful = subst (Faithful f) (sym same) (faithful rule f good);
-    }
+    let h = accepted_plan rule f (model p) is in
+    record { accepted = (λ _. h.0, λ _. refl); refused = not_refused rule f h.0; faithful = h.1 }
 judgement rule f (Err d) is =
-    let fault : Fault rule f d = subst (λ a. Rattle.std.specs.Result.MatchResult a (λ _. Acceptable rule f) (Fault rule f)) (sym is) (told rule f).tells in
+    let fault : Fault rule f d = subst (λ a. MatchResult a (λ _. Acceptable rule f) (Fault rule f)) (sym is) (told rule f).tells in
     record {
       accepted = (
         λ never. absurd (true≢false (sym never)),

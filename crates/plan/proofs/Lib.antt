@@ -1,3 +1,4 @@
 pub mod CheckLaws
 pub mod Faith
 pub mod Judged
+pub mod KindLaws

@@ -1,6 +1,7 @@
 // What a plan asks of an agent.
 ghost use Rattle.std.specs.Prelude.{◌≡◌};
-ghost use Rattle.plan.specs.Plans.{event_of};
+ghost use Rattle.std.specs.Option.{ok_or};
+ghost use Rattle.plan.specs.Kinds.{kind_of, made};
 
 // A request, a step or a leave, with the agent that it is for.
 #[derive(Clone, Copy, PartialEq, Eq, Debug)]
@@ -10,15 +11,43 @@ pub enum Event {
     Leave(usize),
 }
 
+// What is asked, without the agent.
+#[derive(Clone, Copy)]
+pub enum Kind {
+    Request,
+    Step,
+    Leave,
+}
+
+// A byte that stands for no kind.
+#[derive(Clone, Copy)]
+pub struct UnknownKind {
+    pub byte: u8,
+}
+
+impl TryFrom<u8> for Kind {
+    type Error = UnknownKind;
+
+    ghost try_from_gives = { λ n r. r ≡ ok_or (kind_of n) (record { byte = n }) };
+
+    fn try_from(byte: u8) -> Result<Kind, UnknownKind> {
+        match byte {
+            1 => Ok(Kind::Request),
+            2 => Ok(Kind::Step),
+            3 => Ok(Kind::Leave),
+            _ => Err(UnknownKind { byte }),
+        }
+    }
+}
+
 impl Event {
-    // The event of a kind: 1 a request, 2 a step, and else a leave, since no plan with another kind is accepted.
-    pub(crate) fn of_kind(kind: u8, agent: usize) -> Event
-        ensures value { result ≡ event_of kind agent }
+    pub(crate) fn new(kind: Kind, agent: usize) -> Event
+        ensures value { result ≡ made kind agent }
     {
         match kind {
-            1 => Event::Request(agent),
-            2 => Event::Step(agent),
-            _ => Event::Leave(agent),
+            Kind::Request => Event::Request(agent),
+            Kind::Step => Event::Step(agent),
+            Kind::Leave => Event::Leave(agent),
         }
     }
 }

@@ -1,9 +1,9 @@
 // The twelve bytes that a plan file opens with, and where its parts lie.
 ghost use Rattle.std.specs.Prelude.{◌≡◌};
-ghost use Rattle.plan.specs.Checks.{header_read, span_of, header_check, inside_check, apart_check, parts_check};
+ghost use Rattle.plan.specs.Checks.{header_read, span_of, header_check};
 
-use crate::bytes::joined;
 use numbers::factors::smallest_common_factor;
+use numbers::sizes::Sizes;
 use refusal::{Part, Refusal};
 
 // The header's fields. Offsets count from the file's first byte.
@@ -56,10 +56,10 @@ impl Header {
             rule: *rule,
             agents: *agents,
             cells: *cells,
-            identities: joined(*identities_high, *identities_low),
-            tables: joined(*tables_high, *tables_low),
-            events: joined(*events_high, *events_low),
-            count: joined(*count_high, *count_low),
+            identities: u16::from_be_bytes([*identities_high, *identities_low]),
+            tables: u16::from_be_bytes([*tables_high, *tables_low]),
+            events: u16::from_be_bytes([*events_high, *events_low]),
+            count: u16::from_be_bytes([*count_high, *count_low]),
         })
     }
 
@@ -73,13 +73,17 @@ impl Header {
         if self.rule != rule {
             return Err(Refusal::FileRule);
         }
-        if self.agents < 2 || self.agents > 16 {
+        if !(2..=16).contains(&self.agents) {
             return Err(Refusal::FileAgents);
         }
-        if self.cells < 2 || self.cells > 64 {
+        if !(2..=64).contains(&self.cells) {
             return Err(Refusal::FileCells);
         }
-        match smallest_common_factor(usize::from(self.agents), usize::from(self.cells)) {
+        let sizes = Sizes {
+            agents: usize::from(self.agents),
+            cells: usize::from(self.cells),
+        };
+        match smallest_common_factor(sizes) {
             Some(factor) => Err(Refusal::CommonFactor { factor }),
             None => Ok(()),
         }
@@ -100,39 +104,5 @@ impl Header {
             start,
             end: start + size,
         }
-    }
-
-    fn check_inside(&self, part: Part, length: usize) -> Result<(), Refusal>
-        ensures value { result ≡ inside_check self.now length part }
-    {
-        let span = self.span(part);
-        if span.start < 12 || span.end > length {
-            return Err(Refusal::PartOutside { part });
-        }
-        Ok(())
-    }
-
-    fn check_apart(&self, first: Part, second: Part) -> Result<(), Refusal>
-        ensures value { result ≡ apart_check self.now first second }
-    {
-        let one = self.span(first);
-        let other = self.span(second);
-        // An empty part ends where it begins, so it has no byte in common with any.
-        if one.start.max(other.start) < one.end.min(other.end) {
-            return Err(Refusal::PartsOverlap { first, second });
-        }
-        Ok(())
-    }
-
-    // Every part lies behind the header and inside the file, and no two have a byte in common.
-    pub fn check_parts(&self, length: usize) -> Result<(), Refusal>
-        ensures value { result ≡ parts_check self.now length }
-    {
-        self.check_inside(Part::Identities, length)?;
-        self.check_inside(Part::Tables, length)?;
-        self.check_inside(Part::Events, length)?;
-        self.check_apart(Part::Identities, Part::Tables)?;
-        self.check_apart(Part::Identities, Part::Events)?;
-        self.check_apart(Part::Tables, Part::Events)
     }
 }

@@ -2,12 +2,14 @@
 
 #![tactic(auto)]
 
+mod answers;
 mod bytes;
+mod checks;
 mod decode;
+mod draft;
 mod event;
 mod header;
 mod plan;
-mod rows;
 mod rule;
 
 pub use event::Event;

@@ -51,8 +51,8 @@ pub type Edit = (usize, u8);
 // A file with some of its bytes replaced.
 pub fn edited<const N: usize>(mut file: [u8; N], edits: &[Edit]) -> [u8; N] {
     for (at, byte) in edits {
-        if *at < N {
-            file[*at] = *byte;
+        if let Some(place) = file.get_mut(*at) {
+            *place = *byte;
         }
     }
     file

@@ -6,19 +6,17 @@ use std::alloc::Global;
 use std::test::Fail;
 use test_checks::check_eq;
 
-// Number and places of the refusal; zeros where the file is accepted.
-type Verdict = (u8, usize, usize);
-
-const ACCEPTED: Verdict = (0, 0, 0);
+// Accepted, or the number and the places of the refusal.
+type Verdict = Result<(), (u8, usize, usize)>;
 
 // The decoder gives this verdict, and a refusal comes from the layer that its number belongs to.
 fn gives(file: &[u8], rule: u8, expected: Verdict) -> Result<(), Fail> {
     match Plan::decode(file, rule) {
-        Ok(_) => check_eq(ACCEPTED, expected),
+        Ok(_) => check_eq(Ok(()), expected),
         Err(refusal) => {
             let number = refusal.number();
             let (first, second) = refusal.places();
-            check_eq((number, first, second), expected)?;
+            check_eq(Err((number, first, second)), expected)?;
             let layer = if number < 7 { Layer::File } else { Layer::Plan };
             check_eq(refusal.layer(), layer)
         }
@@ -60,50 +58,43 @@ fn entries_are(plan: &Plan<'_>, cases: &[((usize, usize), Option<u8>)]) -> Resul
     Ok(())
 }
 
-// The events with their kind and agent as a file has them.
-fn events_are(plan: &Plan<'_>, cases: &[(usize, Option<(u8, usize)>)]) -> Result<(), Fail> {
+fn events_are(plan: &Plan<'_>, cases: &[(usize, Option<Event>)]) -> Result<(), Fail> {
     for (index, expected) in cases {
-        let event = match plan.event(*index) {
-            None => None,
-            Some(Event::Request(agent)) => Some((1, agent)),
-            Some(Event::Step(agent)) => Some((2, agent)),
-            Some(Event::Leave(agent)) => Some((3, agent)),
-        };
-        check_eq(event, *expected)?;
+        check_eq(plan.event(*index), *expected)?;
     }
     Ok(())
 }
 
 #[test]
 fn lengths(rt: HostRuntime) -> Result<(), Fail> {
-    gives(&[], 1, (1, 0, 0))?;
-    gives(&TIGHT[..11], 1, (1, 0, 0))?;
-    gives(&TIGHT[..12], 1, (7, 1, 0))?;
-    gives(&TIGHT[..38], 1, (7, 3, 0))?;
+    gives(&[], 1, Err((1, 0, 0)))?;
+    gives(&TIGHT[..11], 1, Err((1, 0, 0)))?;
+    gives(&TIGHT[..12], 1, Err((7, 1, 0)))?;
+    gives(&TIGHT[..38], 1, Err((7, 3, 0)))?;
     let other_version = edited(TIGHT, &[(0, 2)]);
-    gives(&other_version[..11], 1, (1, 0, 0))?;
-    gives(&other_version[..12], 1, (2, 0, 0))?;
+    gives(&other_version[..11], 1, Err((1, 0, 0)))?;
+    gives(&other_version[..12], 1, Err((2, 0, 0)))?;
     let longest = padded(rt.alloc(), &TIGHT, 65_535)?;
-    gives(&longest, 1, ACCEPTED)?;
+    gives(&longest, 1, Ok(()))?;
     let too_long = padded(rt.alloc(), &other_version, 65_536)?;
-    gives(&too_long, 1, (1, 0, 0))
+    gives(&too_long, 1, Err((1, 0, 0)))
 }
 
 #[test]
 fn versions_and_rules() -> Result<(), Fail> {
-    gives(&TIGHT, 2, (3, 0, 0))?;
-    gives(&LOOSE, 3, ACCEPTED)?;
+    gives(&TIGHT, 2, Err((3, 0, 0)))?;
+    gives(&LOOSE, 3, Ok(()))?;
     edits_give(
         TIGHT,
         1,
         &[
-            (&[], ACCEPTED),
-            (&[(0, 0)], (2, 0, 0)),
-            (&[(0, 2)], (2, 0, 0)),
-            (&[(0, 2), (1, 2)], (2, 0, 0)),
-            (&[(1, 0)], (3, 0, 0)),
-            (&[(1, 2)], (3, 0, 0)),
-            (&[(1, 2), (2, 1)], (3, 0, 0)),
+            (&[], Ok(())),
+            (&[(0, 0)], Err((2, 0, 0))),
+            (&[(0, 2)], Err((2, 0, 0))),
+            (&[(0, 2), (1, 2)], Err((2, 0, 0))),
+            (&[(1, 0)], Err((3, 0, 0))),
+            (&[(1, 2)], Err((3, 0, 0))),
+            (&[(1, 2), (2, 1)], Err((3, 0, 0))),
         ],
     )
 }
@@ -113,38 +104,38 @@ fn sizes(rt: HostRuntime) -> Result<(), Fail> {
     sizes_give(
         rt.alloc(),
         &[
-            (0, 5, (4, 0, 0)),
-            (1, 5, (4, 0, 0)),
-            (2, 5, ACCEPTED),
-            (16, 17, ACCEPTED),
-            (17, 19, (4, 0, 0)),
-            (255, 2, (4, 0, 0)),
+            (0, 5, Err((4, 0, 0))),
+            (1, 5, Err((4, 0, 0))),
+            (2, 5, Ok(())),
+            (16, 17, Ok(())),
+            (17, 19, Err((4, 0, 0))),
+            (255, 2, Err((4, 0, 0))),
             // Too few and too many of both.
-            (1, 1, (4, 0, 0)),
-            (17, 65, (4, 0, 0)),
-            (3, 0, (5, 0, 0)),
-            (3, 1, (5, 0, 0)),
-            (2, 2, (6, 2, 0)),
-            (2, 3, ACCEPTED),
-            (2, 63, ACCEPTED),
-            (2, 64, (6, 2, 0)),
-            (3, 65, (5, 0, 0)),
+            (1, 1, Err((4, 0, 0))),
+            (17, 65, Err((4, 0, 0))),
+            (3, 0, Err((5, 0, 0))),
+            (3, 1, Err((5, 0, 0))),
+            (2, 2, Err((6, 2, 0))),
+            (2, 3, Ok(())),
+            (2, 63, Ok(())),
+            (2, 64, Err((6, 2, 0))),
+            (3, 65, Err((5, 0, 0))),
             // Five is a factor too.
-            (5, 65, (5, 0, 0)),
-            (3, 4, (6, 2, 0)),
-            (3, 5, ACCEPTED),
-            (3, 9, (6, 3, 0)),
-            (3, 25, ACCEPTED),
-            (4, 25, ACCEPTED),
-            (5, 25, (6, 5, 0)),
-            (6, 49, ACCEPTED),
-            (7, 49, (6, 7, 0)),
-            (12, 13, ACCEPTED),
-            (13, 13, (6, 13, 0)),
+            (5, 65, Err((5, 0, 0))),
+            (3, 4, Err((6, 2, 0))),
+            (3, 5, Ok(())),
+            (3, 9, Err((6, 3, 0))),
+            (3, 25, Ok(())),
+            (4, 25, Ok(())),
+            (5, 25, Err((6, 5, 0))),
+            (6, 49, Ok(())),
+            (7, 49, Err((6, 7, 0))),
+            (12, 13, Ok(())),
+            (13, 13, Err((6, 13, 0))),
             // The smallest of two and of three factors.
-            (16, 39, (6, 3, 0)),
-            (16, 30, (6, 2, 0)),
-            (16, 61, ACCEPTED),
+            (16, 39, Err((6, 3, 0))),
+            (16, 30, Err((6, 2, 0))),
+            (16, 61, Ok(())),
         ],
     )
 }
@@ -155,9 +146,9 @@ fn sizes_come_before_parts() -> Result<(), Fail> {
         TIGHT,
         1,
         &[
-            (&[(2, 17), (5, 11)], (4, 0, 0)),
-            (&[(3, 65), (5, 11)], (5, 0, 0)),
-            (&[(3, 9), (5, 11)], (6, 3, 0)),
+            (&[(2, 17), (5, 11)], Err((4, 0, 0))),
+            (&[(3, 65), (5, 11)], Err((5, 0, 0))),
+            (&[(3, 9), (5, 11)], Err((6, 3, 0))),
         ],
     )
 }
@@ -168,25 +159,25 @@ fn parts_inside() -> Result<(), Fail> {
         TIGHT,
         1,
         &[
-            (&[(5, 11)], (7, 1, 0)),
-            (&[(5, 34)], (7, 1, 0)),
-            (&[(4, 1)], (7, 1, 0)),
-            (&[(7, 11)], (7, 2, 0)),
-            (&[(7, 25)], (7, 2, 0)),
-            (&[(9, 11)], (7, 3, 0)),
-            (&[(9, 34)], (7, 3, 0)),
-            (&[(11, 4)], (7, 3, 0)),
-            (&[(10, 1)], (7, 3, 0)),
-            (&[(8, 255), (9, 255), (10, 255), (11, 255)], (7, 3, 0)),
+            (&[(5, 11)], Err((7, 1, 0))),
+            (&[(5, 34)], Err((7, 1, 0))),
+            (&[(4, 1)], Err((7, 1, 0))),
+            (&[(7, 11)], Err((7, 2, 0))),
+            (&[(7, 25)], Err((7, 2, 0))),
+            (&[(9, 11)], Err((7, 3, 0))),
+            (&[(9, 34)], Err((7, 3, 0))),
+            (&[(11, 4)], Err((7, 3, 0))),
+            (&[(10, 1)], Err((7, 3, 0))),
+            (&[(8, 255), (9, 255), (10, 255), (11, 255)], Err((7, 3, 0))),
             // One byte less is inside, and then shared.
-            (&[(5, 33)], (8, 1, 3)),
-            (&[(7, 24)], (8, 2, 3)),
+            (&[(5, 33)], Err((8, 1, 3))),
+            (&[(7, 24)], Err((8, 2, 3))),
             // The first part that is outside.
-            (&[(5, 11), (7, 25), (9, 11)], (7, 1, 0)),
-            (&[(7, 25), (9, 11)], (7, 2, 0)),
+            (&[(5, 11), (7, 25), (9, 11)], Err((7, 1, 0))),
+            (&[(7, 25), (9, 11)], Err((7, 2, 0))),
             // Shared bytes and a zero identity wait.
-            (&[(7, 12), (9, 34)], (7, 3, 0)),
-            (&[(9, 34), (13, 0)], (7, 3, 0)),
+            (&[(7, 12), (9, 34)], Err((7, 3, 0))),
+            (&[(9, 34), (13, 0)], Err((7, 3, 0))),
         ],
     )
 }
@@ -197,16 +188,16 @@ fn parts_apart() -> Result<(), Fail> {
         TIGHT,
         1,
         &[
-            (&[(7, 17)], (8, 1, 2)),
-            (&[(5, 13)], (8, 1, 2)),
-            (&[(9, 32)], (8, 2, 3)),
+            (&[(7, 17)], Err((8, 1, 2))),
+            (&[(5, 13)], Err((8, 1, 2))),
+            (&[(9, 32)], Err((8, 2, 3))),
             // Identities and tables both share with the events; then all with all.
-            (&[(9, 17)], (8, 1, 3)),
-            (&[(7, 12), (9, 12)], (8, 1, 2)),
+            (&[(9, 17)], Err((8, 1, 3))),
+            (&[(7, 12), (9, 12)], Err((8, 1, 2))),
             // A zero identity, entry or kind waits.
-            (&[(7, 17), (13, 0)], (8, 1, 2)),
-            (&[(9, 20), (18, 0)], (8, 2, 3)),
-            (&[(9, 32), (33, 0)], (8, 2, 3)),
+            (&[(7, 17), (13, 0)], Err((8, 1, 2))),
+            (&[(9, 20), (18, 0)], Err((8, 2, 3))),
+            (&[(9, 32), (33, 0)], Err((8, 2, 3))),
         ],
     )?;
     // Parts that touch are apart: what is refused there is what they hold.
@@ -214,16 +205,16 @@ fn parts_apart() -> Result<(), Fail> {
         LOOSE,
         3,
         &[
-            (&[(5, 35)], ACCEPTED),
-            (&[(5, 34)], (8, 1, 3)),
-            (&[(5, 39)], ACCEPTED),
-            (&[(5, 40)], (7, 1, 0)),
-            (&[(7, 14)], (10, 1, 5)),
-            (&[(7, 15)], (8, 2, 3)),
-            (&[(9, 28)], (11, 1, 0)),
-            (&[(9, 27)], (8, 2, 3)),
-            (&[(9, 31)], (11, 3, 0)),
-            (&[(9, 32)], (8, 1, 3)),
+            (&[(5, 35)], Ok(())),
+            (&[(5, 34)], Err((8, 1, 3))),
+            (&[(5, 39)], Ok(())),
+            (&[(5, 40)], Err((7, 1, 0))),
+            (&[(7, 14)], Err((10, 1, 5))),
+            (&[(7, 15)], Err((8, 2, 3))),
+            (&[(9, 28)], Err((11, 1, 0))),
+            (&[(9, 27)], Err((8, 2, 3))),
+            (&[(9, 31)], Err((11, 3, 0))),
+            (&[(9, 32)], Err((8, 1, 3))),
         ],
     )
 }
@@ -234,17 +225,17 @@ fn no_events() -> Result<(), Fail> {
         TIGHT,
         1,
         &[
-            (&[(11, 0)], ACCEPTED),
-            (&[(11, 0), (9, 12)], ACCEPTED),
-            (&[(11, 0), (9, 15)], ACCEPTED),
-            (&[(11, 0), (9, 20)], ACCEPTED),
-            (&[(11, 0), (9, 39)], ACCEPTED),
-            (&[(11, 0), (9, 40)], (7, 3, 0)),
-            (&[(11, 0), (9, 11)], (7, 3, 0)),
-            (&[(11, 0), (9, 0)], (7, 3, 0)),
+            (&[(11, 0)], Ok(())),
+            (&[(11, 0), (9, 12)], Ok(())),
+            (&[(11, 0), (9, 15)], Ok(())),
+            (&[(11, 0), (9, 20)], Ok(())),
+            (&[(11, 0), (9, 39)], Ok(())),
+            (&[(11, 0), (9, 40)], Err((7, 3, 0))),
+            (&[(11, 0), (9, 11)], Err((7, 3, 0))),
+            (&[(11, 0), (9, 0)], Err((7, 3, 0))),
             // One event is enough to share a byte.
-            (&[(11, 1), (9, 15)], (8, 1, 3)),
-            (&[(11, 1), (9, 20)], (8, 2, 3)),
+            (&[(11, 1), (9, 15)], Err((8, 1, 3))),
+            (&[(11, 1), (9, 20)], Err((8, 2, 3))),
         ],
     )
 }
@@ -255,20 +246,20 @@ fn identities() -> Result<(), Fail> {
         TIGHT,
         1,
         &[
-            (&[(13, 0)], (9, 1, 0)),
-            (&[(13, 1)], ACCEPTED),
-            (&[(14, 0)], (9, 2, 0)),
-            (&[(16, 0), (17, 0)], (9, 3, 0)),
+            (&[(13, 0)], Err((9, 1, 0))),
+            (&[(13, 1)], Ok(())),
+            (&[(14, 0)], Err((9, 2, 0))),
+            (&[(16, 0), (17, 0)], Err((9, 3, 0))),
             // Seven again, the later one named; 263 has its low byte only.
-            (&[(14, 0), (15, 7)], (9, 2, 0)),
-            (&[(16, 0), (17, 7)], (9, 3, 0)),
-            (&[(15, 7)], ACCEPTED),
-            (&[(12, 255), (13, 255)], (9, 3, 0)),
+            (&[(14, 0), (15, 7)], Err((9, 2, 0))),
+            (&[(16, 0), (17, 7)], Err((9, 3, 0))),
+            (&[(15, 7)], Ok(())),
+            (&[(12, 255), (13, 255)], Err((9, 3, 0))),
             // The first agent at fault.
-            (&[(13, 0), (14, 0)], (9, 1, 0)),
-            (&[(14, 0), (15, 7), (16, 0), (17, 0)], (9, 2, 0)),
+            (&[(13, 0), (14, 0)], Err((9, 1, 0))),
+            (&[(14, 0), (15, 7), (16, 0), (17, 0)], Err((9, 2, 0))),
             // A zero entry waits.
-            (&[(16, 0), (17, 0), (18, 0)], (9, 3, 0)),
+            (&[(16, 0), (17, 0), (18, 0)], Err((9, 3, 0))),
         ],
     )
 }
@@ -279,22 +270,22 @@ fn tables() -> Result<(), Fail> {
         TIGHT,
         1,
         &[
-            (&[(18, 0)], (10, 1, 1)),
-            (&[(18, 6)], (10, 1, 1)),
-            (&[(18, 255)], (10, 1, 1)),
-            (&[(32, 0)], (10, 3, 5)),
-            (&[(32, 6)], (10, 3, 5)),
-            (&[(18, 2), (19, 1)], ACCEPTED),
+            (&[(18, 0)], Err((10, 1, 1))),
+            (&[(18, 6)], Err((10, 1, 1))),
+            (&[(18, 255)], Err((10, 1, 1))),
+            (&[(32, 0)], Err((10, 3, 5))),
+            (&[(32, 6)], Err((10, 3, 5))),
+            (&[(18, 2), (19, 1)], Ok(())),
             // Repeats: the later one is named, whichever was edited.
-            (&[(19, 1)], (10, 1, 2)),
-            (&[(22, 1)], (10, 1, 5)),
-            (&[(18, 5)], (10, 1, 5)),
-            (&[(27, 2)], (10, 2, 5)),
+            (&[(19, 1)], Err((10, 1, 2))),
+            (&[(22, 1)], Err((10, 1, 5))),
+            (&[(18, 5)], Err((10, 1, 5))),
+            (&[(27, 2)], Err((10, 2, 5))),
             // Agents first, then local names.
-            (&[(22, 1), (23, 0)], (10, 1, 5)),
-            (&[(28, 4), (30, 0)], (10, 3, 2)),
+            (&[(22, 1), (23, 0)], Err((10, 1, 5))),
+            (&[(28, 4), (30, 0)], Err((10, 3, 2))),
             // An unknown kind waits.
-            (&[(32, 6), (33, 0)], (10, 3, 5)),
+            (&[(32, 6), (33, 0)], Err((10, 3, 5))),
         ],
     )
 }
@@ -305,17 +296,17 @@ fn events() -> Result<(), Fail> {
         TIGHT,
         1,
         &[
-            (&[(33, 0)], (11, 1, 0)),
-            (&[(33, 3)], ACCEPTED),
-            (&[(33, 4)], (11, 1, 0)),
-            (&[(34, 0)], (11, 1, 0)),
-            (&[(34, 3)], ACCEPTED),
-            (&[(34, 4)], (11, 1, 0)),
-            (&[(37, 4)], (11, 3, 0)),
-            (&[(38, 4)], (11, 3, 0)),
-            (&[(36, 0), (37, 0)], (11, 2, 0)),
+            (&[(33, 0)], Err((11, 1, 0))),
+            (&[(33, 3)], Ok(())),
+            (&[(33, 4)], Err((11, 1, 0))),
+            (&[(34, 0)], Err((11, 1, 0))),
+            (&[(34, 3)], Ok(())),
+            (&[(34, 4)], Err((11, 1, 0))),
+            (&[(37, 4)], Err((11, 3, 0))),
+            (&[(38, 4)], Err((11, 3, 0))),
+            (&[(36, 0), (37, 0)], Err((11, 2, 0))),
             // Of two events the third's bytes are in no part.
-            (&[(11, 2), (37, 4)], ACCEPTED),
+            (&[(11, 2), (37, 4)], Ok(())),
         ],
     )
 }
@@ -354,9 +345,9 @@ fn answers() -> Result<(), Fail> {
         &plan,
         &[
             (0, None),
-            (1, Some((1, 1))),
-            (2, Some((2, 3))),
-            (3, Some((3, 2))),
+            (1, Some(Event::Request(1))),
+            (2, Some(Event::Step(3))),
+            (3, Some(Event::Leave(2))),
             (4, None),
         ],
     )
@@ -373,6 +364,6 @@ fn answers_from_any_order() -> Result<(), Fail> {
     )?;
     events_are(
         &plan,
-        &[(1, Some((2, 3))), (2, Some((3, 2))), (3, Some((1, 1)))],
+        &[(1, Some(Event::Step(3))), (2, Some(Event::Leave(2))), (3, Some(Event::Request(1)))],
     )
 }

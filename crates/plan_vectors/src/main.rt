@@ -13,7 +13,7 @@ use std::{fs, io};
 fn verdict(heap: Global, file: &[u8]) -> Result<String, AllocError>
     ensures made { IfOk result (λ s. string_bytes s ≡ verdict_line file.now) }
 {
-    match Plan::decode(file, rule_asked(file)) {
+    match Plan::decode(file, u8::from(rule_asked(file))) {
         Ok(_) => String::from_str(heap, "accepted"),
         Err(refusal) => refusal.to_string(heap),
     }

@@ -1,99 +1,30 @@
 -- Laws of records: how they are read, and what a write to one changes. Assumes nothing.
-use Rattle.std.proofs.Common.{◌≡◌, ℕ, ◌+◌, ◌*◌, ◌<◌, ◌≤◌, Bool, true, false, cond, ◌&&◌, eqb, leb, ◌≢◌, ◌⊎◌, List, [], ◌∷◌, ◌++◌, length, get_or, drop, set, replicate, is_ok, Ok, sym, refl, ap, ◌∙◌, subst, inl, inr, ⊎_elim, arith}
-use Rattle.std.proofs.lemmas.Bool.{cond-true, cond-false, eq-eqb, ne_eqb, and_from, and_left, and_right, cases_eq, cases_order, lt-leb}
-use Rattle.std.proofs.lemmas.List.{length-set, length-append, length-drop, length-replicate, get_or-set_same, get_or-set_other, get_or_append_left, get_or-replicate, drop_more, set_at, replicate_more, append_assoc}
+use Rattle.std.proofs.Common.{◌≡◌, ℕ, ◌+◌, ◌*◌, ◌<◌, ◌≤◌, Bool, true, false, cond, ◌≢◌, ◌⊎◌, List, [], ◌∷◌, ◌++◌, length, get_or, take, drop, set, replicate, Ok, sym, refl, ap, ◌∙◌, subst, inl, inr, ⊎_elim, arith, take-append-drop, length-take-le}
+use Rattle.std.proofs.lemmas.Bool.{cond-true, cases_order}
+use Rattle.std.proofs.lemmas.List.{length-set, length-append, length-drop, length-replicate, get_or-set_same, get_or-set_other, get_or_append_left, get_or-replicate, drop_more, set_at, append_assoc}
+use lib.Seq.{drop-drop}
 use Rattle.numbers.specs.Rows.{within}
 use Rattle.numbers.specs.Names.{listed}
 use Rattle.numbers.proofs.NameLaws.{length_listed, getD_listed, listed_same, listed_set, listed_constant}
-use Rattle.numbers.proofs.RowLaws.{within_from, within_true}
-use Rattle.cells.specs.Marks.{lawful, same_mark, name_check, mark_check, mark_at, put, write_answer, after_write, swap_answer, says_yes, after_swap}
-use Rattle.cells.proofs.StoreLaws.{accepted_name, accepted_mark, write_accepted, write_put, swap_accepted, swap_put}
+use Rattle.cells.specs.Marks.{lawful, same_mark, name_check, mark_check, mark_at, put, after_write, swap_answer, says_yes, after_swap}
+use Rattle.cells.proofs.StoreLaws.{accepted_name, accepted_mark, write_put, swap_accepted, swap_put}
 use Rattle.cells.specs.declared.mark.Mark.{Mark}
 use Rattle.cells.specs.declared.mark.Mark.TheVariants.{Empty, Owner, Rung}
-use Rattle.record_file.specs.Records.{value_of, mark_by, mark_of, encoded, WellFormed, four, record_at, put_record, record_count, start, records, emptied, bytes_written, bytes_swapped}
+use Rattle.record_file.specs.Records.{value_of, mark_by, mark_of, encoded, four, record_at, put_record, record_count, start, records, emptied, bytes_swapped}
 
 -- four numbers are equal one by one
 pub four_same : {a b c d e f g h : ℕ} → a ≡ e → b ≡ f → c ≡ g → d ≡ h → ◌≡◌ {A = List ℕ} (a ∷ b ∷ c ∷ d ∷ []) (e ∷ f ∷ g ∷ h ∷ [])
 four_same p q r s = λ i. p i ∷ q i ∷ r i ∷ s i ∷ []
 
-module _ (bytes : List ℕ) where
-  abbrev kind : ℕ
-  kind = get_or bytes 0 0
-
-  abbrev second : ℕ
-  second = get_or bytes 1 0
-
-  abbrev v : ℕ
-  v = value_of bytes
-
-  zero_second : second ≡ 0 → mark_of bytes ≡ mark_by kind v
-  zero_second e = cond-true (eqb second 0) (mark_by kind v) Empty (eq-eqb second 0 e)
-
-  out_of_range : (high : ℕ) → v ≡ 0 → within 1 high v ≡ false
-  out_of_range high e = subst (λ n. within 1 high n ≡ false) (sym e) refl
-
-  no_owner : (kind ≡ 1 → v ≡ 0) → (eqb kind 1 && within 1 65535 v) ≡ false
-  no_owner h =
-      ⊎_elim
-      (λ one. and_right (eqb kind 1) (within 1 65535 v) (out_of_range 65535 (h one)))
-      (λ other. and_left (eqb kind 1) (within 1 65535 v) (ne_eqb kind 1 other))
-      (cases_eq kind 1)
-
-  too_high : 16 < v → within 1 16 v ≡ false
-  too_high h = and_right (leb 1 v) (leb v 16) (lt-leb v 16 h)
-
-  no_rung : (kind ≡ 2 → (v ≡ 0) ⊎ (16 < v)) → (eqb kind 2 && within 1 16 v) ≡ false
-  no_rung h =
-      ⊎_elim
-      (λ two. and_right (eqb kind 2) (within 1 16 v) (⊎_elim (out_of_range 16) too_high (h two)))
-      (λ other. and_left (eqb kind 2) (within 1 16 v) (ne_eqb kind 2 other))
-      (cases_eq kind 2)
-
-  pub reads_empty : (second ≡ 0 → kind ≡ 1 → v ≡ 0) → (second ≡ 0 → kind ≡ 2 → (v ≡ 0) ⊎ (16 < v)) → Empty ≡ mark_of bytes
-  reads_empty owner rung =
-      ⊎_elim
-      (λ z.
-      sym
-      (zero_second z
-      ∙ cond-false (eqb kind 1 && within 1 65535 v) (Owner v) _ (no_owner (owner z))
-      ∙ cond-false (eqb kind 2 && within 1 16 v) (Rung v) Empty (no_rung (rung z))))
-      (λ n. sym (cond-false (eqb second 0) (mark_by kind v) Empty (ne_eqb second 0 n)))
-      (cases_eq second 0)
-
-  pub reads_owner : (i : ℕ) → second ≡ 0 → kind ≡ 1 → 1 ≤ v → v ≤ 65535 → i ≡ v → Owner i ≡ mark_of bytes
-  reads_owner i z one low high is =
-      ap Owner is
-      ∙ sym (zero_second z ∙ cond-true (eqb kind 1 && within 1 65535 v) (Owner v) _ (and_from (eqb kind 1) (within 1 65535 v) (eq-eqb kind 1 one) (within_from 1 65535 v low high)))
-
-  pub reads_rung : (r : ℕ) → second ≡ 0 → kind ≡ 2 → 1 ≤ v → v ≤ 16 → r ≡ v → Rung r ≡ mark_of bytes
-  reads_rung r z two low high is =
-      let other : kind ≡ 1 → v ≡ 0 = λ one. absurd (omega arith) in
-      ap Rung is
-      ∙ sym
-      (zero_second z
-      ∙ cond-false (eqb kind 1 && within 1 65535 v) (Owner v) _ (no_owner other)
-      ∙ cond-true (eqb kind 2 && within 1 16 v) (Rung v) Empty (and_from (eqb kind 2) (within 1 16 v) (eq-eqb kind 2 two) (within_from 1 16 v low high)))
-
-  -- a well-formed record that reads as empty is four zeros
-  pub back_empty : (second ≡ 0 → kind ≡ 1 → v ≡ 0) → (second ≡ 0 → kind ≡ 2 → (v ≡ 0) ⊎ (16 < v)) → WellFormed bytes → encoded Empty ≡ four bytes 0
-  back_empty owner rung w =
-      let none : (kind ≡ 0) × (v ≡ 0) =
-      ⊎_elim
-      (λ e. e)
-      (⊎_elim (λ o. absurd (omega (arith, owner w.0 o.0, o.1))) (λ r. absurd (⊎_elim (λ z. omega (arith, z, r.1)) (λ h. omega (arith, h, r.2)) (rung w.0 r.0))))
-      w.1
-      in
-      four_same (sym none.0) (sym w.0) (omega (arith, none.1)) (omega (arith, none.1))
-
 -- a lawful mark is read back as it was written
 pub read_back : (k : Mark) → lawful k ≡ true → mark_of (encoded k) ≡ k
 read_back Empty good = refl
 read_back (Owner i) good =
-    let w = within_true 1 65535 i good in
-    sym (reads_owner (encoded (Owner i)) i refl refl (omega (arith, w.0)) (omega (arith, w.1)) (omega arith))
+    let whole : value_of (encoded (Owner i)) ≡ i = omega arith in
+    ap (mark_by 1) whole ∙ cond-true (within 1 65535 i) (Owner i) _ good
 read_back (Rung r) good =
-    let w = within_true 1 16 r good in
-    sym (reads_rung (encoded (Rung r)) r refl refl (omega (arith, w.0)) (omega (arith, w.1)) (omega arith))
+    let whole : value_of (encoded (Rung r)) ≡ r = omega arith in
+    ap (mark_by 2) whole ∙ cond-true (within 1 16 r) (Rung r) _ good
 
 module _ (f : List ℕ) (at : ℕ) (bytes : List ℕ) where
   abbrev one : List ℕ
@@ -128,6 +59,36 @@ module _ (f : List ℕ) (at : ℕ) (bytes : List ℕ) where
       (get_or-set_other three (at + 3) (at + 1) _ 0 (λ e. omega arith) ∙ get_or-set_other two (at + 2) (at + 1) _ 0 (λ e. omega arith) ∙ get_or-set_same one (at + 1) _ 0 (omega arith))
       (get_or-set_other three (at + 3) (at + 2) _ 0 (λ e. omega arith) ∙ get_or-set_same two (at + 2) _ 0 (omega arith))
       (get_or-set_same three (at + 3) _ 0 (omega arith))
+
+-- one byte put where a file is written anew up to it
+put_one : (xs f : List ℕ) (i j x : ℕ) → length xs ≡ i → i < length f → j ≡ i + 1 → set (xs ++ drop i f) i x ≡ (xs ++ x ∷ []) ++ drop j f
+put_one xs f i j x long less next =
+    ap (λ r. set (xs ++ r) i x) (drop_more f i 0 less)
+    ∙ set_at xs (get_or f i 0) (drop (i + 1) f) x i long
+    ∙ sym (append_assoc xs (x ∷ []) (drop (i + 1) f))
+    ∙ ap (λ n. (xs ++ x ∷ []) ++ drop n f) (sym next)
+
+-- four bytes that stand between what is before and after them
+put_four : (f : List ℕ) (at a b c d : ℕ) → at + 4 ≤ length f → take at f ++ (a ∷ b ∷ c ∷ d ∷ drop (at + 4) f) ≡ put_record f at (a ∷ b ∷ c ∷ d ∷ [])
+put_four f at a b c d room =
+    let T = take at f in
+    let long : length T ≡ at = length-take-le at f (omega arith) in
+    let long1 : length (T ++ a ∷ []) ≡ at + 1 = length-append T (a ∷ []) ∙ ap (λ n. n + 1) long in
+    let long2 : length ((T ++ a ∷ []) ++ b ∷ []) ≡ at + 2 = length-append (T ++ a ∷ []) (b ∷ []) ∙ ap (λ n. n + 1) long1 ∙ omega arith in
+    let long3 : length (((T ++ a ∷ []) ++ b ∷ []) ++ c ∷ []) ≡ at + 3 = length-append ((T ++ a ∷ []) ++ b ∷ []) (c ∷ []) ∙ ap (λ n. n + 1) long2 ∙ omega arith in
+    sym
+    (ap (λ g. set (set (set (set g at a) (at + 1) b) (at + 2) c) (at + 3) d) (sym (take-append-drop at f))
+    ∙ ap (λ g. set (set (set g (at + 1) b) (at + 2) c) (at + 3) d) (put_one T f at (at + 1) a long (omega arith) refl)
+    ∙ ap (λ g. set (set g (at + 2) c) (at + 3) d) (put_one (T ++ a ∷ []) f (at + 1) (at + 2) b long1 (omega arith) (omega arith))
+    ∙ ap (λ g. set g (at + 3) d) (put_one ((T ++ a ∷ []) ++ b ∷ []) f (at + 2) (at + 3) c long2 (omega arith) (omega arith))
+    ∙ put_one (((T ++ a ∷ []) ++ b ∷ []) ++ c ∷ []) f (at + 3) (at + 4) d long3 (omega arith) (omega arith)
+    ∙ simp append_assoc)
+
+-- a mark's bytes there are its record put
+pub put_between : (f : List ℕ) (at : ℕ) (k : Mark) → at + 4 ≤ length f → take at f ++ (encoded k ++ drop 4 (drop at f)) ≡ put_record f at (encoded k)
+put_between f at Empty room = rw (drop-drop 4 at f) (put_four f at _ _ _ _ room)
+put_between f at (Owner i) room = rw (drop-drop 4 at f) (put_four f at _ _ _ _ room)
+put_between f at (Rung r) room = rw (drop-drop 4 at f) (put_four f at _ _ _ _ room)
 
 -- as many cells as the file's records
 pub count_is : (f : List ℕ) → record_count (length f) ≡ length (records f)
@@ -172,20 +133,9 @@ module _ (f : List ℕ) (n y : ℕ) (counted : n ≡ length (records f)) (name :
   pub read : record_at f (start y) ≡ mark_at (records f) y
   read = there f y inside.0 inside.1
 
-  -- all that a write says, of the bytes g afterwards
-  pub record Written (k : Mark) (g : List ℕ) : Type 0 where
-    pub value : Ok tt ≡ write_answer (records f) y k
-    pub after : records g ≡ after_write (records f) y k
-    pub bytes : g ≡ bytes_written f y k
-
-  pub written : (k : Mark) (g : List ℕ) → Ok tt ≡ mark_check k → g ≡ put_record f (start y) (encoded k) → Written k g
-  written k g good is =
-      let value = write_accepted (records f) n y counted name k good in
-      record {
-        value = value;
-        after = write_put (records f) n y counted name k (records g) good (ap records is ∙ changes f y inside.0 inside.1 k (accepted_mark k good));
-        bytes = is ∙ ap (λ a. cond (is_ok a) (put_record f (start y) (encoded k)) f) value;
-      }
+  -- the marks after a write
+  pub written : (k : Mark) (g : List ℕ) → Ok tt ≡ mark_check k → g ≡ put_record f (start y) (encoded k) → records g ≡ after_write (records f) y k
+  written k g good is = write_put (records f) n y counted name k (records g) good (ap records is ∙ changes f y inside.0 inside.1 k (accepted_mark k good))
 
   -- all that a swap says
   pub record Swapped (old new : Mark) (b : Bool) (g : List ℕ) : Type 0 where
@@ -206,14 +156,6 @@ module _ (f : List ℕ) (n y : ℕ) (counted : n ≡ length (records f)) (name :
       both : (b : Bool) → records (cond b (put_record f (start y) (encoded new)) f) ≡ cond b (put (records f) y new) (records f)
       both true = changes f y inside.0 inside.1 new (accepted_mark new Good_new)
       both false = refl
-
--- clearing byte by byte
-pub clear_more : (f : List ℕ) (i : ℕ) → i < length f → set (emptied f i) i 0 ≡ emptied f (i + 1)
-clear_more f i less =
-    ap (λ r. set (replicate i 0 ++ r) i 0) (drop_more f i 0 less)
-    ∙ set_at (replicate i 0) (get_or f i 0) (drop (i + 1) f) 0 i (length-replicate i 0)
-    ∙ sym (append_assoc (replicate i 0) (0 ∷ []) (drop (i + 1) f))
-    ∙ ap (λ r. r ++ drop (i + 1) f) (replicate_more i 0)
 
 -- the bytes that were cleared
 zero_at : (f : List ℕ) (n i : ℕ) → i < n → get_or (emptied f n) i 0 ≡ 0

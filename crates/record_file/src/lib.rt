@@ -7,4 +7,4 @@ mod record;
 mod store;
 
 pub use file::RecordFile;
-pub use record::{decode_record, encode_mark};
+pub use record::Record;

@@ -2,10 +2,10 @@
 ghost use Rattle.std.specs.Prelude.{◌≡◌, ◌+◌, ◌*◌, ◌≤◌, length, replicate};
 ghost use Rattle.cells.specs.declared.mark.Mark.TheVariants.{Empty};
 ghost use Rattle.cells.specs.Marks.{write_answer, after_write, swap_answer, after_swap};
-ghost use Rattle.record_file.specs.Records.{record_at, record_count, start, records, emptied, bytes_written, bytes_swapped};
+ghost use Rattle.record_file.specs.Records.{record_at, put_record, record_count, start, records, emptied, encoded, bytes_written, bytes_swapped};
 
 use crate::file::RecordFile;
-use crate::record::{encode_mark, read_record, write_record};
+use crate::record::Record;
 use cells::{CellStore, Mark, check_mark, check_name};
 use refusal::Refusal;
 
@@ -16,14 +16,12 @@ fn cells_in(length: usize) -> usize
     (length / 4).min(64)
 }
 
-// Sets the first `size` bytes to zero.
-fn clear(file: &mut [u8], size: usize)
-    requires { size ≤ length file.old }
-    ensures after { file.new ≡ emptied file.old size }
+// Where the record of a name begins.
+fn start(name: usize) -> usize
+    requires { start name ≤ usize.MAX }
+    ensures { result ≡ start name }
 {
-    for at in 0..size {
-        file[at] = 0;
-    }
+    4 * name.saturating_sub(1)
 }
 
 impl<'a> RecordFile<'a> {
@@ -33,18 +31,31 @@ impl<'a> RecordFile<'a> {
         ensures lender { result.file.ghost_name ≡ file.entry.ghost_name }
         ensures marks { records result.file.now ≡ replicate (record_count (length file.old)) Empty }
     {
-        let count = cells_in(file.len());
-        clear(file, 4 * count);
+        let size = 4 * cells_in(file.len());
+        file[..size].fill(0);
         RecordFile { file }
     }
 
     // The mark of the record with a name.
     fn mark_at(&self, name: usize) -> Mark
-        requires low { 1 ≤ name }
-        requires room { start name + 4 ≤ length self.now.file.now }
+        requires { start name + 4 ≤ length self.now.file.now }
         ensures value { result ≡ record_at self.now.file.now (start name) }
     {
-        read_record(self.file, 4 * (name - 1))
+        let at = start(name);
+        let mut bytes = [0; 4];
+        bytes.copy_from_slice(&self.file[at..at + 4]);
+        Mark::from(Record(bytes))
+    }
+
+    // Puts the record of a mark at a name.
+    fn put(&mut self, name: usize, mark: Mark)
+        requires { start name + 4 ≤ length self.old.file.now }
+        ensures after { self.new.file.now ≡ put_record self.old.file.now (start name) (encoded mark) }
+        ensures same { self.new.file.ghost_name ≡ self.old.file.ghost_name }
+    {
+        let at = start(name);
+        let record = Record::from(mark);
+        self.file[at..at + 4].copy_from_slice(&record.0);
     }
 }
 
@@ -70,7 +81,7 @@ impl CellStore for RecordFile<'_> {
     {
         check_name(name, self.count())?;
         check_mark(mark)?;
-        write_record(self.file, 4 * (name - 1), encode_mark(mark));
+        self.put(name, mark);
         Ok(())
     }
 
@@ -83,9 +94,9 @@ impl CellStore for RecordFile<'_> {
         check_name(name, self.count())?;
         check_mark(old)?;
         check_mark(new)?;
-        let found = self.mark_at(name).is(old);
+        let found = self.mark_at(name) == old;
         if found {
-            write_record(self.file, 4 * (name - 1), encode_mark(new));
+            self.put(name, new);
         }
         Ok(found)
     }

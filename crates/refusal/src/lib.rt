@@ -5,6 +5,7 @@
 ghost use Rattle.std.specs.Prelude.{◌≡◌, Some};
 ghost use Rattle.refusal.specs.Refusals.{layer_word, part_number, number_of, layer_of, first_place, second_place, refusal_line};
 
+use std::error::Error;
 use std::fmt;
 
 // Where a refusal comes from.
@@ -39,12 +40,12 @@ pub enum Part {
     Events,
 }
 
-impl Part {
-    // The number by which a refusal names the part.
-    pub fn number(self) -> usize
-        ensures value { result ≡ part_number self }
-    {
-        match self {
+// The number by which a refusal names the part.
+impl From<Part> for usize {
+    ghost from_gives = { λ part n. n ≡ part_number part };
+
+    fn from(part: Part) -> usize {
+        match part {
             Part::Identities => 1,
             Part::Tables => 2,
             Part::Events => 3,
@@ -190,8 +191,8 @@ impl Refusal {
     {
         match self {
             Refusal::CommonFactor { factor } => (*factor, 0),
-            Refusal::PartOutside { part } => (part.number(), 0),
-            Refusal::PartsOverlap { first, second } => (first.number(), second.number()),
+            Refusal::PartOutside { part } => (usize::from(*part), 0),
+            Refusal::PartsOverlap { first, second } => (usize::from(*first), usize::from(*second)),
             Refusal::BadIdentity { agent }
             | Refusal::NoSuchAgent { agent }
             | Refusal::NotIdle { agent }
@@ -217,3 +218,5 @@ impl fmt::Display for Refusal {
         write!(f, "refused {number} {layer} place {first} {second}")
     }
 }
+
+impl Error for Refusal {}

@@ -10,7 +10,7 @@ use Rattle.renumbered.specs.declared.renumbered.Renumbered.{Renumbered}
 
 -- the name below of name y over c cells
 abbrev pub by_table : Numbering → ℕ → ℕ → ℕ
-by_table n = sigma n.names n.count
+by_table n = sigma n (length n)
 
 module _ {S : Type 0} (marks : S → List Mark) (s : Renumbered S) where
   abbrev pub cells_below : ℕ

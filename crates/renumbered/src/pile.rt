@@ -20,6 +20,6 @@ pub fn flattened<S: CellStore>(pile: Renumbered<Renumbered<S>>) -> Renumbered<S>
         store,
         numbering: lower,
     } = under;
-    let numbering = upper.over(lower, store.count());
+    let numbering = upper.over(&lower, store.count());
     Renumbered { store, numbering }
 }

@@ -1,5 +1,6 @@
 // A store over another store, whose cells it gives other names.
-ghost use Rattle.std.specs.Prelude.{◌≡◌, ℕ, ◌≤◌};
+ghost use Rattle.std.specs.Prelude.{◌≡◌, ℕ, ◌≤◌, length, IfOk, IfErr};
+ghost use Rattle.renumbered.specs.Renumberings.{entry, renumbered_marks, row_check};
 ghost use Rattle.renumbered.specs.Stores.{cells_below, stands_for, name_answer, marks_above, row_answer, name_after, marks_after, lender_above};
 
 use crate::numbering::Numbering;
@@ -23,7 +24,7 @@ impl<S: CellStore> Renumbered<S> {
         ensures marks { marks_above S.CellStore.marks result ≡ S.CellStore.marks store }
         ensures same { lender_above S.CellStore.lender result ≡ S.CellStore.lender store }
     {
-        let numbering = Numbering::from_row(&Same, store.count() as u16);
+        let numbering = Numbering::from_row(&Same, store.count());
         Renumbered { store, numbering }
     }
 
@@ -41,13 +42,27 @@ impl<S: CellStore> Renumbered<S> {
             return Err(Refusal::RowLength);
         }
         let given = Given { row };
-        match first_misfit(&given, count, count as u16) {
-            Some(name) => Err(Refusal::BadRenumbering { name }),
-            None => {
-                self.numbering = Numbering::from_row(&given, count as u16);
-                Ok(())
-            }
+        if let Some(name) = first_misfit(&given, count, count as u16) {
+            return Err(Refusal::BadRenumbering { name });
         }
+        self.numbering = Numbering::from_row(&given, count);
+        Ok(())
+    }
+
+    // A store under which each name stands for the name that a row gives it.
+    pub fn with_row(store: S, row: &[usize]) -> Result<Renumbered<S>, Refusal>
+    where
+        S: Drop,
+        ensures refused { IfErr result (λ e. Err e ≡ row_check row.now (length (S.CellStore.marks store))) }
+        ensures accepted { IfOk result (λ s. Ok tt ≡ row_check row.now (length (S.CellStore.marks store))) }
+        ensures store { IfOk result (λ s. s.store ≡ store) }
+        ensures names { IfOk result (λ s. (y : ℕ) → 1 ≤ y → y ≤ length (S.CellStore.marks store) → stands_for S.CellStore.marks s y ≡ entry row.now y) }
+        ensures marks { IfOk result (λ s. marks_above S.CellStore.marks s ≡ renumbered_marks (entry row.now) (S.CellStore.marks store)) }
+        ensures same { IfOk result (λ s. lender_above S.CellStore.lender s ≡ S.CellStore.lender store) }
+    {
+        let mut above = Renumbered::new(store);
+        above.renumber(row)?;
+        Ok(above)
     }
 
     // The name below that a name stands for.

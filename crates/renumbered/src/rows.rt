@@ -25,30 +25,7 @@ impl Row for Given<'_> {
     ghost numbers = { λ s. entry s.row.now };
 
     fn number_at(&self, place: u16) -> usize {
-        let before = place.saturating_sub(1) as usize;
-        if before < self.row.len() {
-            self.row[before]
-        } else {
-            0
-        }
-    }
-}
-
-// A table's names.
-#[derive(Clone, Copy)]
-pub struct Names<'a> {
-    pub names: &'a [u8],
-}
-
-impl Row for Names<'_> {
-    ghost numbers = { λ s. entry s.names.now };
-
-    fn number_at(&self, place: u16) -> usize {
-        let before = place.saturating_sub(1) as usize;
-        if before < self.names.len() {
-            self.names[before] as usize
-        } else {
-            0
-        }
+        let before = usize::from(place.saturating_sub(1));
+        self.row.get(before).copied().unwrap_or(0)
     }
 }

@@ -1,10 +1,12 @@
 pub mod BoundLaws
 pub mod CallLaws
 pub mod MoveLaws
+pub mod NameChains
 pub mod EmptyLaws
 pub mod QuestionLaws
 pub mod RoundLaws
 pub mod SeatLaws
+pub mod SectionLaws
 pub mod SeatingLaws
 pub mod ServiceLaws
 pub mod TableLaws

@@ -1,5 +1,5 @@
 -- Rounds, agent by agent. Assumes nothing.
-use Rattle.std.proofs.Common.{◌≡◌, ℕ, ◌+◌, ◌≤◌, true, false, is_some, is_err, Some, None, Ok, Err, Option, sym, refl, ap, ◌∙◌, le_refl, add-one, arith}
+use Rattle.std.proofs.Common.{◌≡◌, ℕ, suc, ◌+◌, ◌-◌, ◌≤◌, true, false, is_some, is_err, Some, None, Ok, Err, Option, sym, refl, ap, ◌∙◌, le_refl, arith}
 use Rattle.numbers.specs.First.{NonePasses}
 use Rattle.numbers.specs.Names.{named}
 use Rattle.numbers.proofs.FirstLaws.{none_up_to, first_up_to}
@@ -11,12 +11,12 @@ use Rattle.model.specs.Meanings.{Meaning}
 use Rattle.model.specs.Rigs as model
 use Rattle.model.specs.Rounds.{given, refusal_of, in_turn, may_not, all_may, moving, round_hearing, round_answer, after_round}
 use Rattle.model.specs.declared.Round.{Round}
-use Rattle.model.specs.declared.Round.TheVariants.{Request, Step, Leave}
-use Rattle.rig.specs.Moves.{away}
 
--- one name more
-pub in_turn_more : {A : Type 0} (f : A → ℕ → A) (a : A) (n : ℕ) → in_turn f a (n + 1) ≡ f (in_turn f a n) (n + 1)
-in_turn_more f a n = ap (in_turn f a) (add-one n) ∙ ap (f (in_turn f a n)) (sym (add-one n))
+-- the next name, where those before it are done
+pub in_turn_next : {A : Type 0} (f : A → ℕ → A) (a b : A) (n : ℕ) → 1 ≤ n → b ≡ in_turn f a (n - 1) → f b n ≡ in_turn f a n
+in_turn_next f a b n low before =
+    let next : suc (n - 1) ≡ n = omega arith in
+    ap (λ c. f c n) before ∙ sym (ap (λ k. f (in_turn f a (n - 1)) k) next) ∙ ap (in_turn f a) next
 
 -- a check that refused
 pub refusing : (c : Check) → model.after_check c false true ≡ is_err c
@@ -45,17 +45,19 @@ module _ {P : Type 0} where
   done_once R w (event.Step k) s = refl
   done_once R w (event.Leave k) s = refl
 
-  pub moved_heard : (R : Meaning P) (w : model.World P) (e : Event) → (model.moved R w e).rig.heard ≤ w.rig.heard + 1
+  moved_heard : (R : Meaning P) (w : model.World P) (e : Event) → (model.moved R w e).rig.heard ≤ w.rig.heard + 1
   moved_heard R w e = at_most_once (named w.rig.seats (model.agent_of e)) _ w (λ s. checked_once (model.serving_check R w e s) (model.done_by R w e s) w (done_once R w e s))
 
-  pub away_heard : (w : model.World P) (k : ℕ) → (away w k).rig.heard ≤ w.rig.heard + 1
-  away_heard w k = at_most_once (named w.rig.seats k) _ w (λ s. le_refl (w.rig.heard + 1))
+  -- and so is one that is refused
+  pub heard_heard : (R : Meaning P) (w : model.World P) (e : Event) (c : Check) → (model.after_check c (model.moved R w e) (model.turned_away R w e)).rig.heard ≤ w.rig.heard + 1
+  heard_heard R w e (Ok u) = moved_heard R w e
+  heard_heard R w e (Err x) = at_most_once (named w.rig.seats (model.agent_of e)) _ w (λ s. le_refl (w.rig.heard + 1))
 
-  -- a refused round counts the same for every kind of call
-  pub away_round : (R : Meaning P) (r : Round) (w : model.World P) (l : ℕ) → in_turn away w l ≡ in_turn (λ v k. model.turned_away R v (given r k)) w l
-  away_round R Request w l = refl
-  away_round R Step w l = refl
-  away_round R Leave w l = refl
+  -- the next agent's call, heard by what the check of all said
+  pub heard_in_turn : (R : Meaning P) (r : Round) (c : Check) (w v : model.World P) (k : ℕ) → 1 ≤ k
+      → v ≡ in_turn (λ u j. model.after_check c (model.moved R u (given r j)) (model.turned_away R u (given r j))) w (k - 1)
+      → model.after_check c (model.moved R v (given r k)) (model.turned_away R v (given r k)) ≡ in_turn (λ u j. model.after_check c (model.moved R u (given r j)) (model.turned_away R u (given r j))) w k
+  heard_in_turn R r c w v k low before = in_turn_next (λ u j. model.after_check c (model.moved R u (given r j)) (model.turned_away R u (given r j))) w v k low before
 
   -- a round that is heard, by what the check of all its agents says
   module _ (R : Meaning P) (r : Round) (w : model.World P) (l : ℕ) (moves : l ≡ moving w.rig.standoff) (heard : Ok tt ≡ round_hearing w.rig w.rig.standoff) where
@@ -75,10 +77,11 @@ module _ {P : Type 0} where
         ∙ ap (λ d. model.after_check d (does (moving w.rig.standoff)) (turns (moving w.rig.standoff))) (e ∙ ap (all_may r w.rig) moves)
         ∙ ap (λ d. model.after_check d (model.after_check (all_may r w.rig (moving w.rig.standoff)) (does (moving w.rig.standoff)) (turns (moving w.rig.standoff))) w) heard
 
-    pub round_done : Ok tt ≡ all_may r w.rig l → in_turn (λ v k. model.moved R v (given r k)) w l ≡ after_round R w r
+    -- each agent's call is heard by what the check of all said
+    heard_as : (c : Check) → in_turn (λ v k. model.after_check c (model.moved R v (given r k)) (model.turned_away R v (given r k))) w l ≡ model.after_check c (does l) (turns l)
     unfolding does turns
-    round_done e = after_heard (Ok tt) e
+    heard_as (Ok u) = refl
+    heard_as (Err x) = refl
 
-    pub round_refused : (x : Refusal) → Err x ≡ all_may r w.rig l → in_turn away w l ≡ after_round R w r
-    unfolding does turns
-    round_refused x e = away_round R r w l ∙ after_heard (Err x) e
+    pub round_heard : (c : Check) → c ≡ all_may r w.rig l → in_turn (λ v k. model.after_check c (model.moved R v (given r k)) (model.turned_away R v (given r k))) w l ≡ after_round R w r
+    round_heard c e = heard_as c ∙ after_heard c e

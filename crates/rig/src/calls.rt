@@ -14,7 +14,7 @@ use refusal::Refusal;
 use rules::Rule;
 
 // All calls that a rig will hear.
-const MOST_HEARD: u32 = 1_000_000;
+pub const MOST_HEARD: u32 = 1_000_000;
 
 impl<S: CellStore, R: Rule> Rig<S, R> {
     // Whether a call of agent k is heard at all.
@@ -42,13 +42,8 @@ impl<S: CellStore, R: Rule> Rig<S, R> {
     {
         let agent = agent_of(event);
         self.check_hearing(agent)?;
-        match check_section(event, self.section_or_idle(agent)) {
-            Ok(()) => self.carry_out(event),
-            Err(refusal) => {
-                self.turn_away(agent);
-                Err(refusal)
-            }
-        }
+        let checked = check_section(event, self.section_or_idle(agent));
+        self.hear(event, checked)
     }
 
     // Agent k begins to ask.

@@ -12,10 +12,9 @@ pub fn check_empty<S: CellStore>(store: &S, cells: usize) -> Result<(), Refusal>
     if store.count() != cells {
         return Err(Refusal::CellCount);
     }
-    for before in 0..cells {
-        let mark = store.read(before + 1)?;
-        if !mark.is(Mark::Empty) {
-            return Err(Refusal::CellTaken { name: before + 1 });
+    for name in 1..=cells {
+        if store.read(name)? != Mark::Empty {
+            return Err(Refusal::CellTaken { name });
         }
     }
     Ok(())

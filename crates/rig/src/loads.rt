@@ -80,7 +80,7 @@ impl<S: CellStore, R: Rule> Rig<S, R> {
         if self.cells != 0 {
             return Err(Refusal::NotBlank);
         }
-        let plan = Plan::decode(file, R::own_number())?;
+        let plan = Plan::decode(file, R::NUMBER)?;
         check_empty(&self.store, plan.cells())?;
         seat_planned::<R>(&mut self.seats, &plan);
         self.begin(plan.cells(), None);

@@ -1,16 +1,19 @@
 // What a call does that is heard.
-ghost use Rattle.std.specs.Prelude.{◌≡◌, ◌+◌, ◌^◌, ◌<◌};
-ghost use Rattle.plan.specs.declared.event.Event.TheVariants.{Request, Step, Leave};
+ghost use Rattle.std.specs.Prelude.{◌≡◌, ◌+◌, ◌^◌, ◌<◌, ◌≤◌};
+ghost use Rattle.refusal.specs.Checks.{◌then◌};
+ghost use Rattle.plan.specs.declared.event.Event.TheVariants.{Step};
 ghost use Rattle.model.specs.Meanings.{meaning_of};
-ghost use Rattle.model.specs.Rigs.{moved};
-ghost use Rattle.rig.specs.Moves.{away, crowded, granted, one_step_more};
-ghost use Rattle.rig.specs.Worlds.{world};
+ghost use Rattle.model.specs.Rigs.{moved, turned_away, after_check};
+ghost use Rattle.rig.specs.Bounds.{peak};
+ghost use Rattle.rig.specs.Moves.{away, crowded, granted, one_step_more, needs, seat_after, cells_after};
+ghost use Rattle.rig.specs.Worlds.{seat_over, world};
 
 use crate::rig::Rig;
 use crate::seat::Seat;
-use crate::sections::is_holding;
+use crate::sections::agent_of;
 use crate::service::serve;
 use cells::CellStore;
+use numbers::sizes::Sizes;
 use plan::Event;
 use refusal::Refusal;
 use rules::Rule;
@@ -18,20 +21,61 @@ use rules::Rule;
 impl<P: Copy> Seat<P> {
     // Counts a step, and an entry if it ended in holding.
     fn count_step(&mut self)
-        requires steps { self.old.steps + 1 < 2 ^ 32 }
-        requires entries { self.old.entries + 1 < 2 ^ 32 }
+        requires { peak self.old + 1 < 2 ^ 32 }
         ensures after { self.new ≡ one_step_more self.old }
     {
         self.steps += 1;
-        if is_holding(self.agent.section) {
+        if self.holds() {
             self.entries += 1;
         }
     }
 }
 
+// An agent's step: what it wants is served, and it goes on by the answer.
+fn take_step<S: CellStore, R: Rule>(
+    store: &mut S,
+    seat: &mut Seat<R::Phase>,
+    sizes: Sizes,
+) -> Result<(), Refusal>
+    requires cells { sizes.cells ≤ 64 }
+    requires counted { peak seat.old + 1 < 2 ^ 32 }
+    ensures value { result ≡ needs (meaning_of R.Rule) sizes (S.marks store.old) (Step 0) (seat_over sizes.cells seat.old) }
+    ensures seat { seat_over sizes.cells seat.new ≡ after_check result (seat_after (meaning_of R.Rule) sizes (S.marks store.old) (Step 0) (seat_over sizes.cells seat.old)) (seat_over sizes.cells seat.old) }
+    ensures store { S.marks store.new ≡ after_check result (cells_after (meaning_of R.Rule) sizes (S.marks store.old) (Step 0) (seat_over sizes.cells seat.old)) (S.marks store.old) }
+    ensures same { S.lender store.new ≡ S.lender store.old }
+{
+    let want = R::want(sizes, &seat.agent);
+    let outcome = serve(store, seat, sizes.cells, want)?;
+    R::step(sizes, &mut seat.agent, outcome.answer(sizes.cells));
+    seat.count_step();
+    Ok(())
+}
+
+// What an accepted call does with its agent and the store, unless the store refuses what the agent wants.
+fn act<S: CellStore, R: Rule>(
+    store: &mut S,
+    seat: &mut Seat<R::Phase>,
+    sizes: Sizes,
+    event: Event,
+) -> Result<(), Refusal>
+    requires cells { sizes.cells ≤ 64 }
+    requires counted { peak seat.old + 1 < 2 ^ 32 }
+    ensures value { result ≡ needs (meaning_of R.Rule) sizes (S.marks store.old) event (seat_over sizes.cells seat.old) }
+    ensures seat { seat_over sizes.cells seat.new ≡ after_check result (seat_after (meaning_of R.Rule) sizes (S.marks store.old) event (seat_over sizes.cells seat.old)) (seat_over sizes.cells seat.old) }
+    ensures store { S.marks store.new ≡ after_check result (cells_after (meaning_of R.Rule) sizes (S.marks store.old) event (seat_over sizes.cells seat.old)) (S.marks store.old) }
+    ensures same { S.lender store.new ≡ S.lender store.old }
+{
+    match event {
+        Event::Request(_) => R::ask(sizes, &mut seat.agent),
+        Event::Step(_) => take_step::<S, R>(store, seat, sizes)?,
+        Event::Leave(_) => R::leave(sizes, &mut seat.agent),
+    }
+    Ok(())
+}
+
 impl<S: CellStore, R: Rule> Rig<S, R> {
     // Counts a call that was refused for the section of agent k.
-    pub(crate) fn turn_away(&mut self, k: usize)
+    fn turn_away(&mut self, k: usize)
         requires { self.old.heard < 1000000 }
         ensures after { world S.marks self.new ≡ away (world S.marks self.old) k }
         ensures same { S.lender self.new.store ≡ S.lender self.old.store }
@@ -50,70 +94,37 @@ impl<S: CellStore, R: Rule> Rig<S, R> {
         self.crowd = self.asking().max(self.crowd);
     }
 
-    // Agent k asks.
-    fn begin_asking(&mut self, k: usize)
+    // Carries out a call that is heard and that the agent's section allows.
+    fn carry_out(&mut self, event: Event) -> Result<(), Refusal>
         requires { self.old.heard < 1000000 }
-        ensures after { world S.marks self.new ≡ moved (meaning_of R.Rule) (world S.marks self.old) (Request k) }
+        ensures value { result ≡ granted (meaning_of R.Rule) (world S.marks self.old) event }
+        ensures after { world S.marks self.new ≡ moved (meaning_of R.Rule) (world S.marks self.old) event }
         ensures same { S.lender self.new.store ≡ S.lender self.old.store }
     {
-        let agents = self.seats.count();
-        if let Some(seat) = self.seats.seat(k) {
-            R::ask(agents, self.cells, &mut seat.agent);
-            self.heard += 1;
-            self.note_crowd();
-        }
-    }
-
-    // Agent k leaves.
-    fn begin_leaving(&mut self, k: usize)
-        requires { self.old.heard < 1000000 }
-        ensures after { world S.marks self.new ≡ moved (meaning_of R.Rule) (world S.marks self.old) (Leave k) }
-        ensures same { S.lender self.new.store ≡ S.lender self.old.store }
-    {
-        let agents = self.seats.count();
-        if let Some(seat) = self.seats.seat(k) {
-            R::leave(agents, self.cells, &mut seat.agent);
-            self.heard += 1;
-            self.note_crowd();
-        }
-    }
-
-    // Agent k takes a step, unless the store refuses what it wants.
-    fn take_step(&mut self, k: usize) -> Result<(), Refusal>
-        requires { self.old.heard < 1000000 }
-        ensures value { result ≡ granted (meaning_of R.Rule) (world S.marks self.old) (Step k) }
-        ensures after { world S.marks self.new ≡ moved (meaning_of R.Rule) (world S.marks self.old) (Step k) }
-        ensures same { S.lender self.new.store ≡ S.lender self.old.store }
-    {
-        let agents = self.seats.count();
-        let cells = self.cells;
-        if let Some(seat) = self.seats.seat(k) {
-            let want = R::want(agents, cells, &seat.agent);
-            let outcome = serve(&mut self.store, seat, cells, want)?;
-            R::step(agents, cells, &mut seat.agent, outcome.answer(cells));
-            seat.count_step();
+        let sizes = Sizes {
+            agents: self.seats.count(),
+            cells: self.cells,
+        };
+        if let Some(seat) = self.seats.seat(agent_of(event)) {
+            act::<S, R>(&mut self.store, seat, sizes, event)?;
             self.heard += 1;
             self.note_crowd();
         }
         Ok(())
     }
 
-    // Carries out a call that is heard and that the agent's section allows.
-    pub(crate) fn carry_out(&mut self, event: Event) -> Result<(), Refusal>
+    // What comes of a call that is heard: by its check it is carried out, or counted as refused.
+    pub(crate) fn hear(&mut self, event: Event, checked: Result<(), Refusal>) -> Result<(), Refusal>
         requires { self.old.heard < 1000000 }
-        ensures value { result ≡ granted (meaning_of R.Rule) (world S.marks self.old) event }
-        ensures after { world S.marks self.new ≡ moved (meaning_of R.Rule) (world S.marks self.old) event }
+        ensures value { result ≡ (checked then granted (meaning_of R.Rule) (world S.marks self.old) event) }
+        ensures after { world S.marks self.new ≡ after_check checked (moved (meaning_of R.Rule) (world S.marks self.old) event) (turned_away (meaning_of R.Rule) (world S.marks self.old) event) }
         ensures same { S.lender self.new.store ≡ S.lender self.old.store }
     {
-        match event {
-            Event::Request(agent) => {
-                self.begin_asking(agent);
-                Ok(())
-            }
-            Event::Step(agent) => self.take_step(agent),
-            Event::Leave(agent) => {
-                self.begin_leaving(agent);
-                Ok(())
+        match checked {
+            Ok(()) => self.carry_out(event),
+            Err(refusal) => {
+                self.turn_away(agent_of(event));
+                Err(refusal)
             }
         }
     }

@@ -4,7 +4,6 @@ ghost use Rattle.model.specs.Rigs.{section_at, section_answer, figures_answer, c
 ghost use Rattle.rig.specs.Worlds.{world, rig_of};
 
 use crate::rig::Rig;
-use crate::sections::{is_asking, is_holding};
 use cells::{CellStore, Mark};
 use model::Figures;
 use refusal::Refusal;
@@ -15,61 +14,46 @@ impl<S: CellStore, R: Rule> Rig<S, R> {
     pub fn section(&self, k: usize) -> Result<Section, Refusal>
         ensures value { result ≡ section_answer (rig_of self.now) k }
     {
-        match self.seats.get(k) {
-            Some(seat) => Ok(seat.agent.section),
-            None => Err(Refusal::NoSuchAgent { agent: k }),
-        }
+        let seat = self.seats.get(k).ok_or(Refusal::NoSuchAgent { agent: k })?;
+        Ok(seat.agent.section)
     }
 
     // The figures of agent k and of the rig.
     pub fn figures(&self, k: usize) -> Result<Figures, Refusal>
         ensures value { result ≡ figures_answer (rig_of self.now) k }
     {
-        match self.seats.get(k) {
-            Some(seat) => Ok(Figures {
-                steps: seat.steps,
-                entries: seat.entries,
-                refused: seat.refused,
-                heard: self.heard,
-                crowd: self.crowd,
-            }),
-            None => Err(Refusal::NoSuchAgent { agent: k }),
-        }
+        let seat = self.seats.get(k).ok_or(Refusal::NoSuchAgent { agent: k })?;
+        Ok(Figures {
+            steps: seat.steps,
+            entries: seat.entries,
+            refused: seat.refused,
+            heard: self.heard,
+            crowd: self.crowd,
+        })
     }
 
     // The section of agent k, and idle where there is none.
     pub(crate) fn section_or_idle(&self, k: usize) -> Section
         ensures value { result ≡ section_at (rig_of self.now) k }
     {
-        match self.seats.get(k) {
-            Some(seat) => seat.agent.section,
-            None => Section::Idle,
-        }
+        self.seats
+            .get(k)
+            .map_or(Section::Idle, |seat| seat.agent.section)
     }
 
     // The lowest-numbered agent that holds.
     pub fn holder(&self) -> Option<usize>
         ensures value { result ≡ holder (rig_of self.now) }
     {
-        for before in 0..self.seats.count() {
-            if is_holding(self.section_or_idle(before + 1)) {
-                return Some(before + 1);
-            }
-        }
-        None
+        let before = self.seats.first_holding()?;
+        Some(before + 1)
     }
 
     // How many agents ask.
     pub(crate) fn asking(&self) -> u8
         ensures value { result ≡ asking_now (rig_of self.now) }
     {
-        let mut asking = 0;
-        for before in 0..self.seats.count() {
-            if is_asking(self.section_or_idle(before + 1)) {
-                asking += 1;
-            }
-        }
-        asking
+        self.seats.asking() as u8
     }
 
     // The mark in a cell of the store.

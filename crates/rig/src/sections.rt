@@ -1,28 +1,10 @@
 // What a call asks of its agent's section.
 ghost use Rattle.std.specs.Prelude.{◌≡◌};
-ghost use Rattle.model.specs.Rigs.{agent_of, is_asking, is_holding, section_check};
+ghost use Rattle.model.specs.Rigs.{agent_of, section_check};
 
 use plan::Event;
 use refusal::Refusal;
 use rules::Section;
-
-pub fn is_asking(section: Section) -> bool
-    ensures value { result ≡ is_asking section }
-{
-    match section {
-        Section::Asking => true,
-        _ => false,
-    }
-}
-
-pub fn is_holding(section: Section) -> bool
-    ensures value { result ≡ is_holding section }
-{
-    match section {
-        Section::Holding => true,
-        _ => false,
-    }
-}
 
 // The agent that a call is for.
 pub fn agent_of(event: Event) -> usize

@@ -30,9 +30,9 @@ impl Outcome {
     {
         match self {
             Outcome::Seen(marks) => Answer::Marks(front(marks, cells)),
-            Outcome::Cell(mark) => Answer::of_read(*mark),
-            Outcome::Done => Answer::of_write(),
-            Outcome::Went(found) => Answer::of_swap(*found),
+            Outcome::Cell(mark) => Answer::Cell(*mark),
+            Outcome::Done => Answer::Done,
+            Outcome::Went(found) => Answer::Went(*found),
         }
     }
 }

@@ -1,7 +1,6 @@
 // A rig loaded as a stand-off: agents that move together, each beginning as far round the cells from the one before.
 ghost use Rattle.std.specs.Prelude.{◌≡◌, ◌≤◌, map, take, if◌then◌else◌, nat_le};
 ghost use Rattle.numbers.specs.Names.{listed};
-ghost use Rattle.numbers.specs.Rows.{within};
 ghost use Rattle.model.specs.Loads.{turned, standoff_seat, standoff_answer, after_standoff};
 ghost use Rattle.model.specs.Meanings.{meaning_of};
 ghost use Rattle.rig.specs.Bounds.{peak, busiest};
@@ -15,14 +14,10 @@ use crate::seat::Seat;
 use crate::seats::Seats;
 use cells::CellStore;
 use numbers::factors::smallest_common_factor;
+use numbers::names::is_within;
+use numbers::sizes::Sizes;
 use refusal::Refusal;
 use rules::Rule;
-
-fn is_within(low: usize, high: usize, number: usize) -> bool
-    ensures value { result ≡ within low high number }
-{
-    low <= number && number <= high
-}
 
 // The cell that an agent of those that move together calls by a local name: after the last cell comes the first.
 fn turned_entry(together: usize, cells: usize, agent: usize, name: usize) -> u8
@@ -102,7 +97,7 @@ impl<S: CellStore, R: Rule> Rig<S, R> {
         if !is_within(2, 64, cells) {
             return Err(Refusal::StandoffCells);
         }
-        let Some(together) = smallest_common_factor(agents, cells) else {
+        let Some(together) = smallest_common_factor(Sizes { agents, cells }) else {
             return Err(Refusal::NoCommonFactor);
         };
         check_empty(&self.store, cells)?;

@@ -6,10 +6,11 @@ ghost use Rattle.rule_ladder.specs.ReachLaws.{reachable_step};
 ghost use Rattle.rule_ladder.specs.RenameLaws.{reachable_other, becomes_other};
 ghost use Rattle.std.proofs.Common.{rules};
 
-use crate::moves::{drop_lowest, go_on, raise_next, seek, turn};
+use crate::moves::{drop_lowest, go_on, raise_next, seek};
 use crate::phase::LadderPhase;
 use cells::Mark;
-use rules::{Agent, Answer, Rule, Section, Want, front};
+use numbers::sizes::Sizes;
+use rules::{Agent, Answer, Rule, Section, Want};
 use tally::lowest_flag_set;
 
 // The rule: an agent takes empty cells for rung 1, and climbs as long as it has its share of the cells.
@@ -19,9 +20,9 @@ pub struct Ladder;
 impl Rule for Ladder {
     const NUMBER: u8 = 3;
 
-    type Phase = LadderPhase;
+    ghost NUMBER = { 3 };
 
-    ghost number = { 3 };
+    type Phase = LadderPhase;
 
     ghost loaded = { Seek };
 
@@ -63,27 +64,23 @@ impl Rule for Ladder {
 
     ghost renamedstep = { λ n m a r π size h moves good perm. becomes_other π perm n m a r h good };
 
-    fn own_number() -> u8 {
-        Self::NUMBER
-    }
-
     fn loaded_phase() -> LadderPhase {
         LadderPhase::Seek
     }
 
-    fn ask(_agents: usize, _cells: usize, agent: &mut Agent<LadderPhase>) {
+    fn ask(_sizes: Sizes, agent: &mut Agent<LadderPhase>) {
         agent.rung = 0;
         agent.flags = [false; 64];
         agent.go(Section::Asking, LadderPhase::Seek, 1);
     }
 
-    fn leave(_agents: usize, cells: usize, agent: &mut Agent<LadderPhase>) {
+    fn leave(sizes: Sizes, agent: &mut Agent<LadderPhase>) {
         agent.rung = 0;
-        let lowest = lowest_flag_set(front(&agent.flags, cells));
+        let lowest = lowest_flag_set(agent.flags_at(sizes.cells));
         agent.go(Section::Leaving, LadderPhase::Drop, lowest.unwrap_or(1));
     }
 
-    fn want(_agents: usize, _cells: usize, agent: &Agent<LadderPhase>) -> Want {
+    fn want(_sizes: Sizes, agent: &Agent<LadderPhase>) -> Want {
         match agent.phase {
             LadderPhase::Seek | LadderPhase::Fill => Want::Read(agent.name),
             LadderPhase::Take => Want::Swap(agent.name, Mark::Empty, Mark::Rung(1)),
@@ -93,29 +90,29 @@ impl Rule for Ladder {
         }
     }
 
-    fn step(agents: usize, cells: usize, agent: &mut Agent<LadderPhase>, answer: Answer<'_>) {
+    fn step(sizes: Sizes, agent: &mut Agent<LadderPhase>, answer: Answer<'_>) {
         match (agent.phase, answer) {
-            (LadderPhase::Seek, Answer::Cell(mark)) => seek(cells, agent, mark),
+            (LadderPhase::Seek, Answer::Cell(mark)) => seek(sizes, agent, mark),
             (LadderPhase::Take, Answer::Went(true)) => {
                 agent.flag(true);
-                go_on(agents, cells, agent, LadderPhase::Take);
+                go_on(sizes, agent, LadderPhase::Take);
             }
             (LadderPhase::Take, Answer::Went(false)) => {
-                go_on(agents, cells, agent, LadderPhase::Take);
+                go_on(sizes, agent, LadderPhase::Take);
             }
-            (LadderPhase::Raise, Answer::Done) => raise_next(cells, agent),
+            (LadderPhase::Raise, Answer::Done) => raise_next(sizes, agent),
             (LadderPhase::Fill, Answer::Cell(Mark::Rung(rung))) if rung >= agent.rung => {
-                go_on(agents, cells, agent, LadderPhase::Fill);
+                go_on(sizes, agent, LadderPhase::Fill);
             }
-            (LadderPhase::Fill, Answer::Cell(_)) => turn(agent, LadderPhase::Try),
+            (LadderPhase::Fill, Answer::Cell(_)) => agent.turn(LadderPhase::Try, agent.name),
             (LadderPhase::Try, Answer::Went(true)) => {
                 agent.flag(true);
-                go_on(agents, cells, agent, LadderPhase::Fill);
+                go_on(sizes, agent, LadderPhase::Fill);
             }
-            (LadderPhase::Try, Answer::Went(false)) => turn(agent, LadderPhase::Fill),
+            (LadderPhase::Try, Answer::Went(false)) => agent.turn(LadderPhase::Fill, agent.name),
             (LadderPhase::Drop, Answer::Done) => {
                 agent.flag(false);
-                drop_lowest(cells, agent);
+                drop_lowest(sizes, agent);
             }
             _ => {}
         }

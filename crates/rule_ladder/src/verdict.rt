@@ -2,6 +2,8 @@
 ghost use Rattle.std.specs.Prelude.{◌≡◌};
 ghost use Rattle.rule_ladder.specs.Verdicts.{verdict};
 
+use numbers::sizes::Sizes;
+
 // To drop its marks and seek again, to hold, or to climb to the next rung.
 #[derive(Clone, Copy, PartialEq, Eq, Debug)]
 pub enum Verdict {
@@ -12,13 +14,13 @@ pub enum Verdict {
 
 // Judges an agent that has `count` flags set on a rung: as many for each agent that the rungs from this one up have room
 // for are to cover the cells.
-pub fn judge(count: usize, agents: usize, rung: u8, cells: usize) -> Verdict
-    ensures value { result ≡ verdict count agents rung cells }
+pub fn judge(sizes: Sizes, rung: u8, count: usize) -> Verdict
+    ensures value { result ≡ verdict count sizes.agents rung sizes.cells }
 {
-    let above = agents.saturating_sub(rung as usize);
+    let above = sizes.agents.saturating_sub(rung as usize);
     match count as u128 * (above as u128 + 1) {
-        share if share < cells as u128 => Verdict::Withdraw,
-        _ if rung as usize >= agents => Verdict::Hold,
+        share if share < sizes.cells as u128 => Verdict::Withdraw,
+        _ if rung as usize >= sizes.agents => Verdict::Hold,
         _ => Verdict::Climb,
     }
 }

@@ -13,6 +13,7 @@ ghost use Rattle.tally.specs.Counts.{most_of_one};
 use crate::moves::{decide, give_next, lowest_own, wait_on};
 use crate::phase::MajorityPhase;
 use cells::Mark;
+use numbers::sizes::Sizes;
 use rules::{Agent, Answer, Rule, Section, Want};
 
 // A request takes all cells in turn, then scans them. With fewer marks than another identity the agent gives its own back
@@ -23,9 +24,9 @@ pub struct Majority;
 impl Rule for Majority {
     const NUMBER: u8 = 2;
 
-    type Phase = MajorityPhase;
+    ghost NUMBER = { 2 };
 
-    ghost number = { 2 };
+    type Phase = MajorityPhase;
 
     ghost loaded = { Take };
 
@@ -67,25 +68,21 @@ impl Rule for Majority {
 
     ghost renamedstep = { λ n m a r π sized h moves fits perm. step_where_most_stays π perm m a h.lawful_identity h.lawful_seen (λ b all. ap most_of_one (take-map (replaced π) m b.seen) ∙ most_replaced π perm (seen_at b m) (lawful_take m b.seen all)) a.phase r fits };
 
-    fn own_number() -> u8 {
-        Self::NUMBER
-    }
-
     fn loaded_phase() -> MajorityPhase {
         MajorityPhase::Take
     }
 
-    fn ask(_agents: usize, _cells: usize, agent: &mut Agent<MajorityPhase>) {
+    fn ask(_sizes: Sizes, agent: &mut Agent<MajorityPhase>) {
         agent.forget();
         agent.go(Section::Asking, MajorityPhase::Take, 1);
     }
 
-    fn leave(_agents: usize, cells: usize, agent: &mut Agent<MajorityPhase>) {
-        let name = lowest_own(agent, cells).unwrap_or(1);
+    fn leave(sizes: Sizes, agent: &mut Agent<MajorityPhase>) {
+        let name = lowest_own(sizes, agent).unwrap_or(1);
         agent.go(Section::Leaving, MajorityPhase::Give, name);
     }
 
-    fn want(_agents: usize, _cells: usize, agent: &Agent<MajorityPhase>) -> Want {
+    fn want(_sizes: Sizes, agent: &Agent<MajorityPhase>) -> Want {
         match agent.phase {
             MajorityPhase::Take => Want::Swap(agent.name, Mark::Empty, agent.own()),
             MajorityPhase::Scan | MajorityPhase::Wait => Want::Read(agent.name),
@@ -93,33 +90,31 @@ impl Rule for Majority {
         }
     }
 
-    fn step(_agents: usize, cells: usize, agent: &mut Agent<MajorityPhase>, answer: Answer<'_>) {
+    fn step(sizes: Sizes, agent: &mut Agent<MajorityPhase>, answer: Answer<'_>) {
         match (agent.phase, answer) {
-            (MajorityPhase::Take, Answer::Went(_)) if agent.name < cells => {
-                agent.go(agent.section, MajorityPhase::Take, agent.name + 1);
+            (MajorityPhase::Take, Answer::Went(_)) if agent.name < sizes.cells => {
+                agent.turn(MajorityPhase::Take, agent.name + 1);
             }
-            (MajorityPhase::Take, Answer::Went(_)) => {
-                agent.go(agent.section, MajorityPhase::Scan, 1);
-            }
-            (MajorityPhase::Scan, Answer::Cell(mark)) if agent.name < cells => {
+            (MajorityPhase::Take, Answer::Went(_)) => agent.turn(MajorityPhase::Scan, 1),
+            (MajorityPhase::Scan, Answer::Cell(mark)) if agent.name < sizes.cells => {
                 agent.see(mark);
-                agent.go(agent.section, MajorityPhase::Scan, agent.name + 1);
+                agent.turn(MajorityPhase::Scan, agent.name + 1);
             }
             (MajorityPhase::Scan, Answer::Cell(mark)) => {
                 agent.see(mark);
-                decide(agent, cells);
+                decide(sizes, agent);
             }
             (MajorityPhase::Give, Answer::Done) => {
                 agent.see(Mark::Empty);
-                give_next(agent, cells);
+                give_next(sizes, agent);
             }
-            (MajorityPhase::Wait, Answer::Cell(mark)) if agent.name < cells => {
+            (MajorityPhase::Wait, Answer::Cell(mark)) if agent.name < sizes.cells => {
                 agent.see(mark);
-                agent.go(agent.section, MajorityPhase::Wait, agent.name + 1);
+                agent.turn(MajorityPhase::Wait, agent.name + 1);
             }
             (MajorityPhase::Wait, Answer::Cell(mark)) => {
                 agent.see(mark);
-                wait_on(agent, cells);
+                wait_on(sizes, agent);
             }
             _ => {}
         }

@@ -5,35 +5,36 @@ ghost use Rattle.rule_majority.specs.Majority.{own_name, own_seen, most_seen, al
 use crate::phase::MajorityPhase;
 use crate::verdict::{Verdict, judge};
 use cells::Mark;
-use rules::{Agent, Section, front};
+use numbers::sizes::Sizes;
+use rules::{Agent, Section};
 use tally::{count_of, lowest_name_of, most_of_one_identity};
 
 // The lowest name seen as the agent's own.
-pub fn lowest_own(agent: &Agent<MajorityPhase>, cells: usize) -> Option<usize>
-    ensures value { result ≡ own_name cells agent.now }
+pub fn lowest_own(sizes: Sizes, agent: &Agent<MajorityPhase>) -> Option<usize>
+    ensures value { result ≡ own_name sizes.cells agent.now }
 {
-    lowest_name_of(front(&agent.seen, cells), agent.own())
+    lowest_name_of(agent.seen_at(sizes.cells), agent.own())
 }
 
 // How many marks were seen as the agent's own.
-fn count_own(agent: &Agent<MajorityPhase>, cells: usize) -> usize
-    ensures value { result ≡ own_seen cells agent.now }
+fn count_own(sizes: Sizes, agent: &Agent<MajorityPhase>) -> usize
+    ensures value { result ≡ own_seen sizes.cells agent.now }
 {
-    count_of(front(&agent.seen, cells), agent.own())
+    count_of(agent.seen_at(sizes.cells), agent.own())
 }
 
 // The most marks seen of one identity.
-fn count_most(agent: &Agent<MajorityPhase>, cells: usize) -> usize
-    ensures value { result ≡ most_seen cells agent.now }
+fn count_most(sizes: Sizes, agent: &Agent<MajorityPhase>) -> usize
+    ensures value { result ≡ most_seen sizes.cells agent.now }
 {
-    most_of_one_identity(front(&agent.seen, cells))
+    most_of_one_identity(agent.seen_at(sizes.cells))
 }
 
 // Whether all cells were seen empty.
-fn saw_all_empty(agent: &Agent<MajorityPhase>, cells: usize) -> bool
-    ensures value { result ≡ all_empty cells agent.now }
+fn saw_all_empty(sizes: Sizes, agent: &Agent<MajorityPhase>) -> bool
+    ensures value { result ≡ all_empty sizes.cells agent.now }
 {
-    count_of(front(&agent.seen, cells), Mark::Empty) == cells
+    count_of(agent.seen_at(sizes.cells), Mark::Empty) == sizes.cells
 }
 
 // With nothing left to give, an asking agent waits and a leaving one is idle.
@@ -42,38 +43,41 @@ fn end_giving(agent: &mut Agent<MajorityPhase>)
 {
     match agent.section {
         Section::Leaving => agent.go(Section::Idle, MajorityPhase::Take, 1),
-        section => agent.go(section, MajorityPhase::Wait, 1),
+        _ => agent.turn(MajorityPhase::Wait, 1),
     }
 }
 
 // Gives at the lowest name seen as the agent's own, or ends giving.
-pub fn give_next(agent: &mut Agent<MajorityPhase>, cells: usize)
-    ensures after { agent.new ≡ give_next cells agent.old }
+pub fn give_next(sizes: Sizes, agent: &mut Agent<MajorityPhase>)
+    ensures after { agent.new ≡ give_next sizes.cells agent.old }
 {
-    match lowest_own(agent, cells) {
-        Some(name) => agent.go(agent.section, MajorityPhase::Give, name),
+    match lowest_own(sizes, agent) {
+        Some(name) => agent.turn(MajorityPhase::Give, name),
         None => end_giving(agent),
     }
 }
 
 // After a scan: withdraws, holds, or takes again.
-pub fn decide(agent: &mut Agent<MajorityPhase>, cells: usize)
-    ensures after { agent.new ≡ decided cells agent.old }
+pub fn decide(sizes: Sizes, agent: &mut Agent<MajorityPhase>)
+    ensures after { agent.new ≡ decided sizes.cells agent.old }
 {
-    match judge(count_own(agent, cells), count_most(agent, cells), cells) {
-        Verdict::Withdraw => give_next(agent, cells),
+    let own = count_own(sizes, agent);
+    let most = count_most(sizes, agent);
+    match judge(own, most, sizes.cells) {
+        Verdict::Withdraw => give_next(sizes, agent),
         Verdict::Hold => agent.go(Section::Holding, MajorityPhase::Take, 1),
-        Verdict::Again => agent.go(agent.section, MajorityPhase::Take, 1),
+        Verdict::Again => agent.turn(MajorityPhase::Take, 1),
     }
 }
 
 // After a round of waiting: takes again once all cells were seen empty, and else waits on.
-pub fn wait_on(agent: &mut Agent<MajorityPhase>, cells: usize)
-    ensures after { agent.new ≡ waited cells agent.old }
+pub fn wait_on(sizes: Sizes, agent: &mut Agent<MajorityPhase>)
+    ensures after { agent.new ≡ waited sizes.cells agent.old }
 {
-    if saw_all_empty(agent, cells) {
-        agent.go(agent.section, MajorityPhase::Take, 1);
+    let phase = if saw_all_empty(sizes, agent) {
+        MajorityPhase::Take
     } else {
-        agent.go(agent.section, MajorityPhase::Wait, 1);
-    }
+        MajorityPhase::Wait
+    };
+    agent.turn(phase, 1);
 }

@@ -9,6 +9,7 @@ ghost use Rattle.std.proofs.Common.{rules};
 use crate::judging::{Verdict, judge_look};
 use crate::phase::ReadWritePhase as Phase;
 use cells::Mark;
+use numbers::sizes::Sizes;
 use rules::{Agent, Answer, Rule, Section, Want};
 
 // Rule 1.
@@ -19,39 +20,35 @@ pub struct ReadWrite;
 const FIRST: Phase = Phase::Look;
 
 // After a look: the marks are noted and judged in the same step.
-fn look(agent: &mut Agent<Phase>, marks: &[Mark], cells: usize)
-    ensures after { agent.new ≡ looked cells agent.old marks.now }
+fn look(sizes: Sizes, agent: &mut Agent<Phase>, marks: &[Mark])
+    ensures after { agent.new ≡ looked sizes.cells agent.old marks.now }
 {
-    let section = agent.section;
-    let own = agent.own();
     agent.see_all(marks);
-    match judge_look(marks, own, cells) {
+    match judge_look(marks, agent.own(), sizes.cells) {
         Verdict::Hold => agent.go(Section::Holding, Phase::Look, 1),
-        Verdict::Again => agent.go(section, Phase::Look, 1),
-        Verdict::Put(name) => agent.go(section, Phase::Put, name),
-        Verdict::Withdraw => agent.go(section, Phase::Read, 1),
+        Verdict::Again => agent.turn(Phase::Look, 1),
+        Verdict::Put(name) => agent.turn(Phase::Put, name),
+        Verdict::Withdraw => agent.turn(Phase::Read, 1),
     }
 }
 
 // From one name to the next; behind the last an asking agent looks again, and a leaving one is idle.
-fn go_on(agent: &mut Agent<Phase>, cells: usize)
-    ensures after { agent.new ≡ onward cells agent.old }
+fn go_on(sizes: Sizes, agent: &mut Agent<Phase>)
+    ensures after { agent.new ≡ onward sizes.cells agent.old }
 {
-    let section = agent.section;
-    let name = agent.name;
-    match section {
-        _ if name < cells => agent.go(section, Phase::Read, name + 1),
+    match agent.section {
+        _ if agent.name < sizes.cells => agent.turn(Phase::Read, agent.name + 1),
         Section::Leaving => agent.go(Section::Idle, Phase::Look, 1),
-        _ => agent.go(section, Phase::Look, 1),
+        _ => agent.turn(Phase::Look, 1),
     }
 }
 
 impl Rule for ReadWrite {
     const NUMBER: u8 = 1;
 
-    type Phase = Phase;
+    ghost NUMBER = { 1 };
 
-    ghost number = { 1 };
+    type Phase = Phase;
 
     ghost loaded = { Look };
 
@@ -93,24 +90,20 @@ impl Rule for ReadWrite {
 
     ghost renamedstep = { λ n m a r π sized h moves fits perm. steps_replaced n m a π h perm r fits };
 
-    fn own_number() -> u8 {
-        Self::NUMBER
-    }
-
     fn loaded_phase() -> Phase {
         FIRST
     }
 
-    fn ask(_agents: usize, _cells: usize, agent: &mut Agent<Phase>) {
+    fn ask(_sizes: Sizes, agent: &mut Agent<Phase>) {
         agent.forget();
         agent.go(Section::Asking, FIRST, 1);
     }
 
-    fn leave(_agents: usize, _cells: usize, agent: &mut Agent<Phase>) {
+    fn leave(_sizes: Sizes, agent: &mut Agent<Phase>) {
         agent.go(Section::Leaving, Phase::Read, 1);
     }
 
-    fn want(_agents: usize, _cells: usize, agent: &Agent<Phase>) -> Want {
+    fn want(_sizes: Sizes, agent: &Agent<Phase>) -> Want {
         match agent.phase {
             Phase::Look => Want::Look,
             Phase::Put => Want::Write(agent.name, agent.own()),
@@ -119,19 +112,15 @@ impl Rule for ReadWrite {
         }
     }
 
-    fn step(_agents: usize, cells: usize, agent: &mut Agent<Phase>, answer: Answer<'_>) {
-        let section = agent.section;
-        let name = agent.name;
+    fn step(sizes: Sizes, agent: &mut Agent<Phase>, answer: Answer<'_>) {
         match (agent.phase, answer) {
-            (Phase::Look, Answer::Marks(marks)) => look(agent, marks, cells),
-            (Phase::Put, Answer::Done) => agent.go(section, Phase::Look, 1),
-            (Phase::Read, Answer::Cell(mark)) if mark.is(agent.own()) => agent.go(
-                section,
-                Phase::Clear,
-                name,
-            ),
-            (Phase::Read, Answer::Cell(_)) => go_on(agent, cells),
-            (Phase::Clear, Answer::Done) => go_on(agent, cells),
+            (Phase::Look, Answer::Marks(marks)) => look(sizes, agent, marks),
+            (Phase::Put, Answer::Done) => agent.turn(Phase::Look, 1),
+            (Phase::Read, Answer::Cell(mark)) if mark == agent.own() => {
+                agent.turn(Phase::Clear, agent.name);
+            }
+            (Phase::Read, Answer::Cell(_)) => go_on(sizes, agent),
+            (Phase::Clear, Answer::Done) => go_on(sizes, agent),
             _ => {}
         }
     }

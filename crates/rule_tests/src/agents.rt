@@ -1,5 +1,6 @@
 // Agents to begin with, and what is checked of them afterwards.
 use cells::Mark;
+use numbers::sizes::Sizes;
 use rules::{Agent, Section};
 use std::fmt::Debug;
 use std::test::Fail;
@@ -15,6 +16,17 @@ pub const OTHER: Mark = Mark::Owner(9);
 pub const THIRD: Mark = Mark::Owner(3);
 
 pub const NONE: Mark = Mark::Empty;
+
+// Two agents and three cells, as in most tests.
+pub const SIZES: Sizes = Sizes {
+    agents: 2,
+    cells: 3,
+};
+
+// Two agents, and other cells.
+pub fn over(cells: usize) -> Sizes {
+    Sizes { agents: 2, cells }
+}
 
 pub fn at<P: Copy>(section: Section, phase: P, name: usize) -> Agent<P> {
     Agent {

@@ -1,5 +1,5 @@
 // Rule 3, mostly with two agents and three cells.
-use crate::agents::{NONE, OTHER, at, has_seen, having, stands};
+use crate::agents::{NONE, OTHER, SIZES, at, has_seen, having, over, stands};
 use cells::Mark;
 use rule_ladder::{Ladder, LadderPhase as Phase};
 use rules::{Agent, Answer, Rule, Section};
@@ -10,11 +10,7 @@ use test_checks::check_eq;
 fn climber(phase: Phase, name: usize, rung: u8, flags: [bool; 4]) -> Agent<Phase> {
     let mut agent = at(Section::Asking, phase, name);
     agent.rung = rung;
-    let [a, b, c, d] = flags;
-    agent.flags[0] = a;
-    agent.flags[1] = b;
-    agent.flags[2] = c;
-    agent.flags[3] = d;
+    agent.flags[..4].copy_from_slice(&flags);
     agent
 }
 
@@ -36,14 +32,14 @@ const THREE: [bool; 4] = [true, true, true, false];
 #[test]
 fn seeks() -> Result<(), Fail> {
     let mut agent = climber(Phase::Seek, 1, 0, FLAT);
-    Ladder::step(2, 3, &mut agent, Answer::of_read(OTHER));
+    Ladder::step(SIZES, &mut agent, Answer::of_read(OTHER));
     stands(&agent, Section::Asking, Phase::Seek, 2)?;
     let mut agent = climber(Phase::Seek, 3, 0, FLAT);
-    Ladder::step(2, 3, &mut agent, Answer::of_read(NONE));
+    Ladder::step(SIZES, &mut agent, Answer::of_read(NONE));
     stands(&agent, Section::Asking, Phase::Take, 1)?;
     has(&agent, 1, FLAT)?;
     let mut agent = having(climber(Phase::Seek, 3, 0, FLAT), &[NONE, OTHER, NONE]);
-    Ladder::step(2, 3, &mut agent, Answer::of_read(NONE));
+    Ladder::step(SIZES, &mut agent, Answer::of_read(NONE));
     stands(&agent, Section::Asking, Phase::Seek, 1)?;
     has(&agent, 0, FLAT)
 }
@@ -52,15 +48,15 @@ fn seeks() -> Result<(), Fail> {
 #[test]
 fn takes() -> Result<(), Fail> {
     let mut agent = climber(Phase::Take, 1, 1, FLAT);
-    Ladder::step(2, 3, &mut agent, Answer::of_swap(true));
+    Ladder::step(SIZES, &mut agent, Answer::of_swap(true));
     stands(&agent, Section::Asking, Phase::Take, 2)?;
     has(&agent, 1, [true, false, false, false])?;
     let mut agent = climber(Phase::Take, 3, 1, FLAT);
-    Ladder::step(2, 3, &mut agent, Answer::of_swap(false));
+    Ladder::step(SIZES, &mut agent, Answer::of_swap(false));
     stands(&agent, Section::Asking, Phase::Seek, 1)?;
     has(&agent, 0, FLAT)?;
     let mut agent = climber(Phase::Take, 3, 1, [false, true, false, false]);
-    Ladder::step(2, 3, &mut agent, Answer::of_swap(false));
+    Ladder::step(SIZES, &mut agent, Answer::of_swap(false));
     stands(&agent, Section::Asking, Phase::Drop, 2)?;
     has(&agent, 0, [false, true, false, false])
 }
@@ -69,15 +65,15 @@ fn takes() -> Result<(), Fail> {
 #[test]
 fn climbs() -> Result<(), Fail> {
     let mut agent = climber(Phase::Take, 3, 1, [true, false, false, false]);
-    Ladder::step(2, 3, &mut agent, Answer::of_swap(true));
+    Ladder::step(SIZES, &mut agent, Answer::of_swap(true));
     stands(&agent, Section::Asking, Phase::Raise, 1)?;
     has(&agent, 2, ENDS)?;
-    Ladder::step(2, 3, &mut agent, Answer::of_write());
+    Ladder::step(SIZES, &mut agent, Answer::of_write());
     stands(&agent, Section::Asking, Phase::Raise, 3)?;
-    Ladder::step(2, 3, &mut agent, Answer::of_write());
+    Ladder::step(SIZES, &mut agent, Answer::of_write());
     stands(&agent, Section::Asking, Phase::Fill, 1)?;
     let mut agent = climber(Phase::Take, 4, 1, ENDS);
-    Ladder::step(2, 4, &mut agent, Answer::of_swap(false));
+    Ladder::step(over(4), &mut agent, Answer::of_swap(false));
     stands(&agent, Section::Asking, Phase::Raise, 1)?;
     has(&agent, 2, ENDS)
 }
@@ -85,17 +81,17 @@ fn climbs() -> Result<(), Fail> {
 #[test]
 fn fills() -> Result<(), Fail> {
     let mut agent = climber(Phase::Fill, 1, 2, ENDS);
-    Ladder::step(2, 3, &mut agent, Answer::of_read(Mark::Rung(2)));
+    Ladder::step(SIZES, &mut agent, Answer::of_read(Mark::Rung(2)));
     stands(&agent, Section::Asking, Phase::Fill, 2)?;
-    Ladder::step(2, 3, &mut agent, Answer::of_read(Mark::Rung(1)));
+    Ladder::step(SIZES, &mut agent, Answer::of_read(Mark::Rung(1)));
     stands(&agent, Section::Asking, Phase::Try, 2)?;
-    Ladder::step(2, 3, &mut agent, Answer::of_swap(false));
+    Ladder::step(SIZES, &mut agent, Answer::of_swap(false));
     stands(&agent, Section::Asking, Phase::Fill, 2)?;
-    Ladder::step(2, 3, &mut agent, Answer::of_read(NONE));
-    Ladder::step(2, 3, &mut agent, Answer::of_swap(true));
+    Ladder::step(SIZES, &mut agent, Answer::of_read(NONE));
+    Ladder::step(SIZES, &mut agent, Answer::of_swap(true));
     stands(&agent, Section::Asking, Phase::Fill, 3)?;
     has(&agent, 2, THREE)?;
-    Ladder::step(2, 3, &mut agent, Answer::of_read(Mark::Rung(3)));
+    Ladder::step(SIZES, &mut agent, Answer::of_read(Mark::Rung(3)));
     stands(&agent, Section::Holding, Phase::Seek, 1)?;
     has(&agent, 2, THREE)
 }
@@ -104,13 +100,13 @@ fn fills() -> Result<(), Fail> {
 #[test]
 fn fails_on_the_highest_rung() -> Result<(), Fail> {
     let mut agent = climber(Phase::Fill, 3, 2, ENDS);
-    Ladder::step(2, 3, &mut agent, Answer::of_read(Mark::Rung(2)));
+    Ladder::step(SIZES, &mut agent, Answer::of_read(Mark::Rung(2)));
     stands(&agent, Section::Asking, Phase::Drop, 1)?;
     has(&agent, 0, ENDS)?;
-    Ladder::step(2, 3, &mut agent, Answer::of_write());
+    Ladder::step(SIZES, &mut agent, Answer::of_write());
     stands(&agent, Section::Asking, Phase::Drop, 3)?;
     has(&agent, 0, [false, false, true, false])?;
-    Ladder::step(2, 3, &mut agent, Answer::of_write());
+    Ladder::step(SIZES, &mut agent, Answer::of_write());
     stands(&agent, Section::Asking, Phase::Seek, 1)?;
     has(&agent, 0, FLAT)
 }
@@ -119,12 +115,12 @@ fn fails_on_the_highest_rung() -> Result<(), Fail> {
 fn leaves() -> Result<(), Fail> {
     let mut agent = climber(Phase::Seek, 1, 2, ENDS);
     agent.section = Section::Holding;
-    Ladder::leave(2, 3, &mut agent);
+    Ladder::leave(SIZES, &mut agent);
     stands(&agent, Section::Leaving, Phase::Drop, 1)?;
     has(&agent, 0, ENDS)?;
-    Ladder::step(2, 3, &mut agent, Answer::of_write());
+    Ladder::step(SIZES, &mut agent, Answer::of_write());
     stands(&agent, Section::Leaving, Phase::Drop, 3)?;
-    Ladder::step(2, 3, &mut agent, Answer::of_write());
+    Ladder::step(SIZES, &mut agent, Answer::of_write());
     stands(&agent, Section::Idle, Phase::Seek, 1)?;
     has(&agent, 0, FLAT)
 }
@@ -134,7 +130,7 @@ fn leaves() -> Result<(), Fail> {
 fn requests() -> Result<(), Fail> {
     let mut agent = having(climber(Phase::Seek, 1, 2, ENDS), &[OTHER]);
     agent.section = Section::Idle;
-    Ladder::ask(2, 3, &mut agent);
+    Ladder::ask(SIZES, &mut agent);
     stands(&agent, Section::Asking, Phase::Seek, 1)?;
     has(&agent, 0, FLAT)?;
     has_seen(&agent, &[OTHER])

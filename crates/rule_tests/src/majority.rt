@@ -1,5 +1,5 @@
 // Rule 2.
-use crate::agents::{NONE, OTHER, OWN, THIRD, at, has_seen, having, stands};
+use crate::agents::{NONE, OTHER, OWN, SIZES, THIRD, at, has_seen, having, over, stands};
 use cells::Mark;
 use rule_majority::{Majority, MajorityPhase as Phase};
 use rules::{Answer, Rule, Section};
@@ -8,7 +8,7 @@ use std::test::Fail;
 // An asking agent in a phase gets an answer, among three cells.
 fn steps(from: (Phase, usize), answer: Answer<'_>, to: (Phase, usize)) -> Result<(), Fail> {
     let mut agent = at(Section::Asking, from.0, from.1);
-    Majority::step(2, 3, &mut agent, answer);
+    Majority::step(SIZES, &mut agent, answer);
     stands(&agent, Section::Asking, to.0, to.1)
 }
 
@@ -22,7 +22,7 @@ fn scans(
 ) -> Result<(), Fail> {
     let cells = marks.len();
     let mut agent = having(at(Section::Asking, Phase::Scan, cells), marks);
-    Majority::step(2, cells, &mut agent, Answer::of_read(last));
+    Majority::step(over(cells), &mut agent, Answer::of_read(last));
     stands(&agent, section, phase, name)
 }
 
@@ -36,7 +36,7 @@ fn takes_scans_and_waits() -> Result<(), Fail> {
     steps((Phase::Wait, 3), Answer::of_read(NONE), (Phase::Take, 1))?;
     steps((Phase::Wait, 3), Answer::of_read(OTHER), (Phase::Wait, 1))?;
     let mut agent = having(at(Section::Asking, Phase::Wait, 3), &[NONE, OTHER, NONE]);
-    Majority::step(2, 3, &mut agent, Answer::of_read(NONE));
+    Majority::step(SIZES, &mut agent, Answer::of_read(NONE));
     stands(&agent, Section::Asking, Phase::Wait, 1)
 }
 
@@ -81,10 +81,10 @@ fn scans_of_four() -> Result<(), Fail> {
 #[test]
 fn gives_while_asking() -> Result<(), Fail> {
     let mut agent = having(at(Section::Asking, Phase::Give, 1), &[OWN, OTHER, OWN]);
-    Majority::step(2, 3, &mut agent, Answer::of_write());
+    Majority::step(SIZES, &mut agent, Answer::of_write());
     has_seen(&agent, &[NONE, OTHER, OWN])?;
     stands(&agent, Section::Asking, Phase::Give, 3)?;
-    Majority::step(2, 3, &mut agent, Answer::of_write());
+    Majority::step(SIZES, &mut agent, Answer::of_write());
     has_seen(&agent, &[NONE, OTHER, NONE])?;
     stands(&agent, Section::Asking, Phase::Wait, 1)
 }
@@ -92,11 +92,11 @@ fn gives_while_asking() -> Result<(), Fail> {
 #[test]
 fn leaves() -> Result<(), Fail> {
     let mut agent = having(at(Section::Holding, Phase::Take, 1), &[OTHER, OWN, OWN]);
-    Majority::leave(2, 3, &mut agent);
+    Majority::leave(SIZES, &mut agent);
     stands(&agent, Section::Leaving, Phase::Give, 2)?;
-    Majority::step(2, 3, &mut agent, Answer::of_write());
+    Majority::step(SIZES, &mut agent, Answer::of_write());
     stands(&agent, Section::Leaving, Phase::Give, 3)?;
-    Majority::step(2, 3, &mut agent, Answer::of_write());
+    Majority::step(SIZES, &mut agent, Answer::of_write());
     stands(&agent, Section::Idle, Phase::Take, 1)?;
     has_seen(&agent, &[OTHER, NONE, NONE])
 }
@@ -104,7 +104,7 @@ fn leaves() -> Result<(), Fail> {
 #[test]
 fn requests() -> Result<(), Fail> {
     let mut agent = having(at(Section::Idle, Phase::Take, 1), &[OTHER, OWN]);
-    Majority::ask(2, 3, &mut agent);
+    Majority::ask(SIZES, &mut agent);
     has_seen(&agent, &[NONE, NONE])?;
     stands(&agent, Section::Asking, Phase::Take, 1)
 }

@@ -1,5 +1,5 @@
 // Rule 1.
-use crate::agents::{NONE, OTHER, OWN, THIRD, at, has_seen, stands};
+use crate::agents::{NONE, OTHER, OWN, SIZES, THIRD, at, has_seen, over, stands};
 use cells::Mark;
 use rule_read_write::{ReadWrite, ReadWritePhase as Phase};
 use rules::{Answer, Rule, Section};
@@ -8,7 +8,7 @@ use std::test::Fail;
 // An asking agent looks at these marks, of as many cells, and goes to a section, a phase and a name.
 fn looks(marks: &[Mark], section: Section, phase: Phase, name: usize) -> Result<(), Fail> {
     let mut agent = at(Section::Asking, Phase::Look, 1);
-    ReadWrite::step(2, marks.len(), &mut agent, Answer::Marks(marks));
+    ReadWrite::step(over(marks.len()), &mut agent, Answer::Marks(marks));
     has_seen(&agent, marks)?;
     stands(&agent, section, phase, name)
 }
@@ -20,7 +20,7 @@ fn steps(
     to: (Section, Phase, usize),
 ) -> Result<(), Fail> {
     let mut agent = at(from.0, from.1, from.2);
-    ReadWrite::step(2, 3, &mut agent, answer);
+    ReadWrite::step(SIZES, &mut agent, answer);
     stands(&agent, to.0, to.1, to.2)
 }
 
@@ -121,11 +121,11 @@ fn leaves() -> Result<(), Fail> {
     )?;
     steps((leaving, Phase::Clear, 3), Answer::of_write(), idle)?;
     let mut agent = at(Section::Holding, Phase::Look, 1);
-    ReadWrite::leave(2, 1, &mut agent);
+    ReadWrite::leave(over(1), &mut agent);
     stands(&agent, leaving, Phase::Read, 1)?;
-    ReadWrite::step(2, 1, &mut agent, Answer::of_read(OWN));
+    ReadWrite::step(over(1), &mut agent, Answer::of_read(OWN));
     stands(&agent, leaving, Phase::Clear, 1)?;
-    ReadWrite::step(2, 1, &mut agent, Answer::of_write());
+    ReadWrite::step(over(1), &mut agent, Answer::of_write());
     stands(&agent, Section::Idle, Phase::Look, 1)
 }
 
@@ -134,9 +134,9 @@ fn leaves() -> Result<(), Fail> {
 fn requests() -> Result<(), Fail> {
     let mut agent = at(Section::Idle, Phase::Look, 1);
     agent.see(OTHER);
-    ReadWrite::ask(2, 3, &mut agent);
+    ReadWrite::ask(SIZES, &mut agent);
     has_seen(&agent, &[NONE])?;
     stands(&agent, Section::Asking, Phase::Look, 1)?;
-    ReadWrite::step(2, 3, &mut agent, Answer::of_swap(true));
+    ReadWrite::step(SIZES, &mut agent, Answer::of_swap(true));
     stands(&agent, Section::Asking, Phase::Look, 1)
 }

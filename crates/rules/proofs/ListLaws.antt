@@ -1,19 +1,16 @@
 -- Marks put over others. Assumes nothing.
-use Rattle.std.proofs.Common.{◌≡◌, ℕ, zero, suc, ◌+◌, ◌<◌, List, [], ◌∷◌, length, get_or, take, set, sym, refl, ap, ◌∙◌, add-one, arith}
+use Rattle.std.proofs.Common.{◌≡◌, ℕ, zero, suc, min, List, [], ◌∷◌, ◌++◌, length, take, drop, refl, ap, arith}
 use Rattle.cells.specs.declared.mark.Mark.{Mark}
-use Rattle.cells.specs.declared.mark.Mark.TheVariants.{Empty}
 use Rattle.rules.specs.Records.{overlaid}
 
--- one mark more
-overlaid_suc : (ks old : List Mark) (i : ℕ) → i < length ks → set (overlaid (take i ks) old) i (get_or ks i Empty) ≡ overlaid (take (suc i) ks) old
-overlaid_suc [] old i less = absurd (omega arith)
-overlaid_suc (k ∷ ks) [] zero less = refl
-overlaid_suc (k ∷ ks) (o ∷ old) zero less = refl
-overlaid_suc (k ∷ ks) [] (suc i) less = refl
-overlaid_suc (k ∷ ks) (o ∷ old) (suc i) less = ap (λ r. k ∷ r) (overlaid_suc ks old i (omega arith))
-
-pub overlaid_more : (ks old : List Mark) (i : ℕ) → i < length ks → set (overlaid (take i ks) old) i (get_or ks i Empty) ≡ overlaid (take (i + 1) ks) old
-overlaid_more ks old i less = overlaid_suc ks old i less ∙ ap (λ j. overlaid (take j ks) old) (sym (add-one i))
+-- the marks for which there is room, and behind them the old ones
+pub overlaid_is : (ks old : List Mark) (n : ℕ) → n ≡ min (length ks) (length old) → take n ks ++ drop n old ≡ overlaid ks old
+overlaid_is [] old zero e = refl
+overlaid_is [] old (suc n) e = absurd (omega arith)
+overlaid_is (k ∷ ks) [] zero e = refl
+overlaid_is (k ∷ ks) [] (suc n) e = absurd (omega arith)
+overlaid_is (k ∷ ks) (o ∷ old) zero e = absurd (omega arith)
+overlaid_is (k ∷ ks) (o ∷ old) (suc n) e = ap (λ r. k ∷ r) (overlaid_is ks old n (omega arith))
 
 pub length_overlaid : (ks old : List Mark) → length (overlaid ks old) ≡ length old
 length_overlaid [] old = refl

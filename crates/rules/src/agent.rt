@@ -30,6 +30,7 @@ impl fmt::Display for Section {
 
 // An agent's record: its section and identity; its phase, of which each rule has its own; one local name; a rung; the
 // marks last seen and the flags, at the local names from 1 on.
+// Two arrays of fixed room rather than lists: no rule may want memory, and a record is copied.
 #[derive(Clone, Copy)]
 pub struct Agent<P> {
     pub section: Section,

@@ -6,7 +6,6 @@ mod agent;
 mod answer;
 mod marks;
 mod moves;
-mod replies;
 mod rule;
 mod want;
 

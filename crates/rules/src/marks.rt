@@ -1,5 +1,5 @@
 // Small changes of the lists in a record, at any length.
-ghost use Rattle.std.specs.Prelude.{◌≡◌, take, slice_set};
+ghost use Rattle.std.specs.Prelude.{◌≡◌, ◌-◌, take, slice_set};
 ghost use Rattle.rules.specs.Records.{overlaid};
 
 use cells::Mark;
@@ -8,19 +8,17 @@ use cells::Mark;
 pub fn front<T>(list: &[T], count: usize) -> &[T]
     ensures value { result.now ≡ take count list.now }
 {
-    if count < list.len() {
-        &list[0..count]
-    } else {
-        list
-    }
+    &list[..count.min(list.len())]
 }
 
-// Puts an element at an index, if there is one.
-pub fn note<T: Copy>(list: &mut [T], index: usize, element: T)
-    ensures after { list.new ≡ slice_set list.old index element }
+// Puts an element at a name, if there is one.
+pub fn note<T: Copy>(list: &mut [T], name: usize, element: T)
+    ensures after { list.new ≡ slice_set list.old (name - 1) element }
 {
-    if index < list.len() {
-        list[index] = element;
+    let before = name.saturating_sub(1);
+    // By index: of what is written through `get_mut` a proof knows the length alone.
+    if before < list.len() {
+        list[before] = element;
     }
 }
 
@@ -28,7 +26,6 @@ pub fn note<T: Copy>(list: &mut [T], index: usize, element: T)
 pub fn note_all(list: &mut [Mark], marks: &[Mark])
     ensures after { list.new ≡ overlaid marks.now list.old }
 {
-    for index in 0..marks.len() {
-        note(list, index, marks[index]);
-    }
+    let room = marks.len().min(list.len());
+    list[..room].copy_from_slice(&marks[..room]);
 }

@@ -1,10 +1,10 @@
 // Changes of a record that every rule makes.
 ghost use Rattle.std.specs.Prelude.{◌≡◌, ◌-◌, replicate, slice_set};
 ghost use Rattle.cells.specs.declared.mark.Mark.TheVariants.{Empty};
-ghost use Rattle.rules.specs.Records.{own, going, having_seen, flagged, overlaid};
+ghost use Rattle.rules.specs.Records.{own, seen_at, flags_at, going, having_seen, flagged, overlaid};
 
 use crate::agent::{Agent, Section};
-use crate::marks::{note, note_all};
+use crate::marks::{front, note, note_all};
 use cells::Mark;
 
 impl<P: Copy> Agent<P> {
@@ -13,6 +13,20 @@ impl<P: Copy> Agent<P> {
         ensures value { result ≡ own self.now }
     {
         Mark::Owner(self.identity)
+    }
+
+    // What was seen at the names 1 to `cells`.
+    pub fn seen_at(&self, cells: usize) -> &[Mark]
+        ensures value { result.now ≡ seen_at self.now cells }
+    {
+        front(&self.seen, cells)
+    }
+
+    // The flags at the names 1 to `cells`.
+    pub fn flags_at(&self, cells: usize) -> &[bool]
+        ensures value { result.now ≡ flags_at self.now cells }
+    {
+        front(&self.flags, cells)
     }
 
     // Goes to a section, a phase and a local name.
@@ -24,11 +38,18 @@ impl<P: Copy> Agent<P> {
         self.name = name;
     }
 
+    // Goes to a phase and a local name, in the same section.
+    pub fn turn(&mut self, phase: P, name: usize)
+        ensures after { self.new ≡ going self.old self.old.section phase name }
+    {
+        self.go(self.section, phase, name);
+    }
+
     // Notes the mark that was seen at the agent's local name.
     pub fn see(&mut self, mark: Mark)
         ensures after { self.new ≡ having_seen self.old (slice_set self.old.seen (self.old.name - 1) mark) }
     {
-        note(&mut self.seen, self.name.saturating_sub(1), mark);
+        note(&mut self.seen, self.name, mark);
     }
 
     // Notes the marks that a look showed.
@@ -49,6 +70,6 @@ impl<P: Copy> Agent<P> {
     pub fn flag(&mut self, on: bool)
         ensures after { self.new ≡ flagged self.old (slice_set self.old.flags (self.old.name - 1) on) }
     {
-        note(&mut self.flags, self.name.saturating_sub(1), on);
+        note(&mut self.flags, self.name, on);
     }
 }

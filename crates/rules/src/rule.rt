@@ -8,6 +8,7 @@ ghost use Rattle.rules.specs.Lawful.{Sized, LawfulIdentity, Idles, Holds, Moves,
 use crate::agent::Agent;
 use crate::answer::Answer;
 use crate::want::Want;
+use numbers::sizes::Sizes;
 
 // The machine of one agent that knows the numbers of agents and cells. `reachable` holds of every record that calls can
 // lead to: the laws say that loading, asking, leaving and every fitting answer keep it, and what the rule owes of such
@@ -15,9 +16,9 @@ use crate::want::Want;
 pub trait Rule {
     const NUMBER: u8;
 
-    type Phase: Copy;
+    ghost NUMBER: { ℕ };
 
-    ghost number: { ℕ };
+    type Phase: Copy;
 
     ghost loaded: { Self.Phase };
 
@@ -31,23 +32,20 @@ pub trait Rule {
 
     ghost reachable: { ℕ → ℕ → Agent Self.Phase → Type 0 };
 
-    fn own_number() -> u8
-        ensures value { result ≡ number };
-
     fn loaded_phase() -> Self::Phase
         ensures value { result ≡ loaded };
 
-    fn ask(agents: usize, cells: usize, agent: &mut Agent<Self::Phase>)
-        ensures after { agent.new ≡ asked agents cells agent.old };
+    fn ask(sizes: Sizes, agent: &mut Agent<Self::Phase>)
+        ensures after { agent.new ≡ asked sizes.agents sizes.cells agent.old };
 
-    fn leave(agents: usize, cells: usize, agent: &mut Agent<Self::Phase>)
-        ensures after { agent.new ≡ left agents cells agent.old };
+    fn leave(sizes: Sizes, agent: &mut Agent<Self::Phase>)
+        ensures after { agent.new ≡ left sizes.agents sizes.cells agent.old };
 
-    fn want(agents: usize, cells: usize, agent: &Agent<Self::Phase>) -> Want
-        ensures value { result ≡ wants agents cells agent.now };
+    fn want(sizes: Sizes, agent: &Agent<Self::Phase>) -> Want
+        ensures value { result ≡ wants sizes.agents sizes.cells agent.now };
 
-    fn step(agents: usize, cells: usize, agent: &mut Agent<Self::Phase>, answer: Answer<'_>)
-        ensures after { agent.new ≡ becomes agents cells agent.old (reply_of answer.entry) };
+    fn step(sizes: Sizes, agent: &mut Agent<Self::Phase>, answer: Answer<'_>)
+        ensures after { agent.new ≡ becomes sizes.agents sizes.cells agent.old (reply_of answer.entry) };
 
     ghost loads: { (n m i : ℕ) → Sized n m → LawfulIdentity i → reachable n m (loaded_agent loaded i) };
 

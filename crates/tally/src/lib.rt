@@ -2,44 +2,48 @@
 
 #![tactic(auto)]
 
-ghost use Rattle.std.specs.Prelude.{◌≡◌, ◌+◌, ◌<◌, length};
-ghost use Rattle.tally.specs.Counts.{times, lowest, is_new, identities, times_at, most_of_one, flags_set, lowest_flag};
+ghost use Rattle.std.specs.Prelude.{◌≡◌, ◌&&◌, not, is_some, take, cond, count_by};
+ghost use Rattle.tally.specs.Counts.{times, lowest, is_owner, identities, most_of_one, flags_set, lowest_flag};
+ghost use Rattle.tally.specs.Names.{lowest_name};
 
 use cells::Mark;
+
+// How often an element stands in a list.
+fn count<T: PartialEq + Copy>(list: &[T], element: T) -> usize
+    ensures value { result ≡ count_by (λ x. T.eq x element) list.now }
+{
+    list.iter().filter(|other| **other == element).count()
+}
+
+// The lowest name where an element stands in a list.
+fn lowest_name<T: PartialEq + Copy>(list: &[T], element: T) -> Option<usize>
+    ensures value { result ≡ lowest_name (λ x. T.eq x element) list.now }
+{
+    list.iter()
+        .position(|other| *other == element)
+        .map(|before| before + 1)
+}
 
 // How often a mark stands among others.
 pub fn count_of(marks: &[Mark], mark: Mark) -> usize
     ensures value { result ≡ times marks.now mark }
 {
-    let mut count = 0;
-    for other in marks {
-        if other.is(mark) {
-            count += 1;
-        }
-    }
-    count
+    count(marks, mark)
 }
 
 // The lowest name where a mark stands.
 pub fn lowest_name_of(marks: &[Mark], mark: Mark) -> Option<usize>
     ensures value { result ≡ lowest marks.now mark }
 {
-    for before in 0..marks.len() {
-        if marks[before].is(mark) {
-            return Some(before + 1);
-        }
-    }
-    None
+    lowest_name(marks, mark)
 }
 
-// Whether an owner's mark stands behind the first `before` marks that is none of them.
-fn is_new_owner(marks: &[Mark], before: usize) -> bool
-    requires { before < length marks.now }
-    ensures value { result ≡ is_new marks.now (before + 1) }
+// Whether a mark is an owner's that is none of the first `before` marks.
+fn is_new_owner(marks: &[Mark], before: usize, mark: Mark) -> bool
+    ensures value { result ≡ (is_owner mark && not (is_some (lowest (take before marks.now) mark))) }
 {
-    let mark = marks[before];
     match mark {
-        Mark::Owner(_) => lowest_name_of(&marks[0..before], mark).is_none(),
+        Mark::Owner(_) => !marks.iter().take(before).any(|other| *other == mark),
         _ => false,
     }
 }
@@ -48,21 +52,17 @@ fn is_new_owner(marks: &[Mark], before: usize) -> bool
 pub fn count_identities(marks: &[Mark]) -> usize
     ensures value { result ≡ identities marks.now }
 {
-    let mut count = 0;
-    for before in 0..marks.len() {
-        if is_new_owner(marks, before) {
-            count += 1;
-        }
-    }
-    count
+    marks
+        .iter()
+        .enumerate()
+        .filter(|(before, mark)| is_new_owner(marks, *before, **mark))
+        .count()
 }
 
-// How often the owner's mark behind the first `before` marks stands among all; 0 where it is no owner's.
-fn count_of_owner(marks: &[Mark], before: usize) -> usize
-    requires { before < length marks.now }
-    ensures value { result ≡ times_at marks.now (before + 1) }
+// How often an owner's mark stands among all; 0 where it is no owner's.
+fn count_of_owner(marks: &[Mark], mark: Mark) -> usize
+    ensures value { result ≡ cond (is_owner mark) (times marks.now mark) 0 }
 {
-    let mark = marks[before];
     match mark {
         Mark::Owner(_) => count_of(marks, mark),
         _ => 0,
@@ -73,35 +73,23 @@ fn count_of_owner(marks: &[Mark], before: usize) -> usize
 pub fn most_of_one_identity(marks: &[Mark]) -> usize
     ensures value { result ≡ most_of_one marks.now }
 {
-    let mut most = 0;
-    for before in 0..marks.len() {
-        most = count_of_owner(marks, before).max(most);
-    }
-    most
+    marks
+        .iter()
+        .map(|mark| count_of_owner(marks, *mark))
+        .max()
+        .unwrap_or(0)
 }
 
 // How many flags are set.
 pub fn count_flags(flags: &[bool]) -> usize
     ensures value { result ≡ flags_set flags.now }
 {
-    let mut count = 0;
-    for flag in flags {
-        if *flag {
-            count += 1;
-        }
-    }
-    count
+    count(flags, true)
 }
 
 // The lowest name whose flag is set.
 pub fn lowest_flag_set(flags: &[bool]) -> Option<usize>
     ensures value { result ≡ lowest_flag flags.now }
 {
-    for before in 0..flags.len() {
-        let name = before + 1;
-        if flags[before] {
-            return Some(name);
-        }
-    }
-    None
+    lowest_name(flags, true)
 }

@@ -16,7 +16,7 @@ fn main(rt: HostRuntime) -> io::Result<()> {
     let mut input = Vec::new(rt.alloc());
     rt.stdin().take(MOST).read_to_end(&mut input)?;
     let file = input.as_slice();
-    match Plan::decode(file, rule_asked(file)) {
+    match Plan::decode(file, u8::from(rule_asked(file))) {
         Ok(plan) => rt.println(Record { plan }),
         Err(refusal) => rt.println(refusal),
     }

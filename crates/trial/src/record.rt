@@ -1,4 +1,7 @@
 // The lines that a person reads of an accepted plan.
+ghost use Rattle.std.specs.Prelude.{◌≤◌};
+ghost use Rattle.plan.specs.Plans.{model};
+
 use plan::Plan;
 use std::fmt;
 
@@ -33,11 +36,14 @@ fn write_agent<W: fmt::Write>(
     plan: &Plan<'_>,
     agent: usize,
     f: &mut fmt::Formatter<W>,
-) -> fmt::Result {
-    let identity = plan.identity(agent).unwrap_or(0);
+) -> fmt::Result
+    requires first { 1 ≤ agent }
+    requires last { agent ≤ (model plan.now).agents }
+{
+    let identity = plan.identity(agent).unwrap();
     write!(f, "agent {agent} identity {identity} table")?;
     for name in 1..=plan.cells() {
-        let cell = plan.table_entry(agent, name).unwrap_or(0);
+        let cell = plan.table_entry(agent, name).unwrap();
         write!(f, " {cell}")?;
     }
     writeln!(f)

@@ -1,5 +1,6 @@
 // How seats are made and counted.
-ghost use Rattle.std.specs.Prelude.{◌≡◌, ◌<◌, ◌≤◌, [], ◌∷◌, ◌++◌, length, IfOk};
+ghost use Rattle.std.specs.Prelude.{◌≡◌, ◌<◌, ◌≤◌, [], ◌∷◌, ◌++◌, length, IfOk, count_by, position};
+ghost use Rattle.model.specs.Rigs.{is_asking, is_holding};
 ghost use Rattle.rig.specs.Seating.{seated_in};
 
 use super::Seats;
@@ -21,6 +22,21 @@ impl<P: Copy> Seats<P> {
         ensures few { result ≤ 16 }
     {
         self.items.len()
+    }
+
+    // How many agents ask.
+    pub(crate) fn asking(&self) -> usize
+        ensures value { result ≡ count_by (λ s. is_asking s.agent.section) (seated_in self.now) }
+        ensures few { result ≤ 16 }
+    {
+        self.items.iter().filter(|seat| seat.asks()).count()
+    }
+
+    // The place of the first agent that holds.
+    pub(crate) fn first_holding(&self) -> Option<usize>
+        ensures value { result ≡ position (λ s. is_holding s.agent.section) (seated_in self.now) }
+    {
+        self.items.iter().position(|seat| seat.holds())
     }
 
     // Lets all agents go.

@@ -1,9 +1,9 @@
-use Rattle.std.proofs.Common.{sym}
+use Rattle.std.proofs.Common.{sym, ◌∙◌}
 use Rattle.numbers.proofs.NameLaws.{length_listed}
 use Rattle.plan.specs.Plans.{event_at}
 use Rattle.plan.proofs.plan.Plan.event_count.Goals as goal
 
-pub returns : goal.returns
-returns c =
+pub returns-clause-value : goal.returns-clause-value
+returns-clause-value c =
     let p = c.args.self.now in
-    record { value = sym (length_listed (event_at p.header p.file.now) p.header.count) }
+    c.from.ensures ∙ sym (length_listed (event_at p.header p.file.now) p.header.count)

@@ -3,14 +3,12 @@ use Rattle.numbers.proofs.NameLaws.{named_in, named_out}
 use Rattle.plan.specs.Plans.{identity_at}
 use Rattle.plan.proofs.plan.Plan.identity.Goals as goal
 
-pub returns-then-not-is_name : goal.returns-then-not-is_name
-returns-then-not-is_name c =
+pub returns-then-not-is_name-clause-value : goal.returns-then-not-is_name-clause-value
+returns-then-not-is_name-clause-value c =
     let p = c.args.self.now in
-    record { value = sym (named_out (identity_at p.header p.file.now) p.header.agents c.args.agent (rw c.agents.ensures.value at (sym c.if-not-is_name.ensures.value))) }
+    sym (named_out (identity_at p.header p.file.now) p.header.agents c.args.agent (rw c.agents.ensures.value at (sym c.if-not-is_name.ensures.value)))
 
-pub returns : goal.returns
-returns c =
+pub returns-clause-value : goal.returns-clause-value
+returns-clause-value c =
     let p = c.args.self.now in
-    record {
-      value = ap Some c.word_at.ensures.value ∙ sym (named_in (identity_at p.header p.file.now) p.header.agents c.args.agent (rw c.agents.ensures.value at (sym c.if-not-is_name.ensures.value)));
-    }
+    ap Some (rw (c.draft.ensures.header, c.draft.ensures.file) at c.identity.ensures.value) ∙ sym (named_in (identity_at p.header p.file.now) p.header.agents c.args.agent (rw c.agents.ensures.value at (sym c.if-not-is_name.ensures.value)))

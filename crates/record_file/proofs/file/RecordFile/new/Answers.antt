@@ -1,10 +1,10 @@
-use Rattle.std.proofs.Common.{◌*◌, refl, ap, ◌∙◌}
-use Rattle.record_file.specs.Records.{emptied, records}
+use Rattle.std.proofs.Common.{◌≡◌, ◌*◌, ◌++◌, length, drop, rules, ap, ◌∙◌}
+use Rattle.record_file.specs.Records.{records, record_count, emptied}
 use Rattle.record_file.proofs.RecordLaws.{cleared}
 use Rattle.record_file.proofs.file.RecordFile.new.Goals as goal
 
-pub returns : goal.returns
-returns c =
+pub returns-clause-marks : goal.returns-clause-marks
+returns-clause-marks c =
     let f = c.args.file.now in
-    let bytes = c.clear.ensures.after ∙ ap (λ n. emptied f (4 * n)) c.cells_in-count.ensures.value in
-    record { bytes = bytes; lender = refl; marks = ap records bytes ∙ cleared f }
+    let bytes : c.fill.new.self ++ drop (4 * c.cells_in-size.result) f ≡ emptied f (4 * record_count (length f)) = search rules in
+    ap records bytes ∙ cleared f

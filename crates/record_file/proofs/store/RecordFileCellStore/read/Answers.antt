@@ -1,16 +1,11 @@
-use Rattle.std.proofs.Common.{◌∙◌, arith}
+use Rattle.std.proofs.Common.{◌∙◌}
 use Rattle.cells.proofs.StoreLaws.{read_accepted}
 use Rattle.record_file.specs.Records.{records}
-use Rattle.record_file.proofs.RecordLaws.{inside, room, read}
+use Rattle.record_file.proofs.RecordLaws.{room, read}
 use Rattle.record_file.proofs.store.RecordFileCellStore.read.Goals as goal
 
 pub mark_at-requires : goal.mark_at-requires
-mark_at-requires c =
-    let f = c.args.self.now.file.now in
-    let counted = c.count.ensures.value in
-    let name = c.in_ok-check_name.ensures.value in
-    let first = (inside f c.count.result c.args.name counted name).0 in
-    record { low = omega (arith, first); room = omega (arith, first, room f c.count.result c.args.name counted name) }
+mark_at-requires c = room c.args.self.now.file.now c.count.result c.args.name c.count.ensures.value c.in_ok-check_name.ensures.value
 
 pub returns : goal.returns
 returns c =

@@ -1,26 +1,25 @@
-use Rattle.std.proofs.Common.{sym, ◌∙◌}
-use Rattle.renumbered.proofs.RenumberingLaws.{sigma_in, sigma_out, sigma_other, sigma_disordered}
+use Rattle.std.proofs.Common.{◌≡◌, length, true, sym, ◌∙◌, subst, rules}
+use Rattle.renumbered.specs.Renumberings.{entry, arranged}
+use Rattle.renumbered.proofs.RenumberingLaws.{sigma_in, sigma_out, sigma_other}
 use Rattle.renumbered.proofs.numbering.Numbering.below.Goals as goal
-use Rattle.renumbered.proofs.numbering.Numbering.below.Goals.{else-self-cells-via-then-self-cells+then-is_name+else-is_arranged, else-self-cells-via-then-self-cells+else-is_name, else-self-cells-via-else-self-cells}
+use Rattle.renumbered.proofs.numbering.Numbering.below.Goals.{else-len-cells-via-then-len-cells+else-is_name, else-len-cells-via-else-len-cells}
 
-pub returns-then-is_arranged : goal.returns-then-is_arranged
-returns-then-is_arranged c =
+pub returns-then-is_name : goal.returns-then-is_name
+returns-then-is_name c =
     let n = c.args.self.now in
-    record {
-      value =
-          c.number_at.ensures.value
-          ∙ sym (sigma_in n.names n.count c.args.cells c.args.name c.if-self-cells.true (sym c.if-is_name.ensures.value) (sym c.if-is_arranged.ensures.value));
-    }
+    let good : arranged n (length n) ≡ true = subst (λ ns. arranged ns (length ns) ≡ true) c.self.view_is c.self.invariant in
+    let full : length n ≡ c.args.cells = search rules in
+    let there : c.from.result ≡ entry n c.args.name = search rules in
+    record { value = there ∙ sym (sigma_in n (length n) c.args.cells c.args.name full (sym c.if-is_name.ensures.value) good) }
 
-pub returns-else-self-cells : goal.returns-else-self-cells
-returns-else-self-cells c =
+pub returns-else-len-cells : goal.returns-else-len-cells
+returns-else-len-cells c =
     let n = c.args.self.now in
     record {
       value =
           sym
-          (elim c.else-self-cells.branch [
-            | else-self-cells-via-then-self-cells+then-is_name+else-is_arranged w ↦ sigma_disordered n.names n.count c.args.cells c.args.name (sym w.if-is_arranged.ensures.value)
-            | else-self-cells-via-then-self-cells+else-is_name w ↦ sigma_out n.names n.count c.args.cells c.args.name (sym w.if-is_name.ensures.value)
-            | else-self-cells-via-else-self-cells w ↦ sigma_other n.names n.count c.args.cells c.args.name w.if-self-cells.false
+          (elim c.else-len-cells.branch [
+            | else-len-cells-via-then-len-cells+else-is_name w ↦ sigma_out n (length n) c.args.cells c.args.name (sym w.if-is_name.ensures.value)
+            | else-len-cells-via-else-len-cells w ↦ sigma_other n (length n) c.args.cells c.args.name (search rules)
           ]);
     }

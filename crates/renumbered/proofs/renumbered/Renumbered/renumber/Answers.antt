@@ -6,8 +6,8 @@ use Rattle.renumbered.proofs.RenumberingLaws.{renumbered_same}
 use Rattle.renumbered.proofs.TableLaws.{table_in}
 use Rattle.renumbered.proofs.renumbered.Renumbered.renumber.Goals as goal
 
-pub returns-in-None : goal.returns-in-None
-returns-in-None g c =
+pub returns : goal.returns
+returns g c =
     let s = c.args.self.now in
     let marks = g.S.CellStore.marks in
     let ms = marks s.store in
@@ -15,7 +15,7 @@ returns-in-None g c =
     let n = c.from_row-self.result in
     let is : Ok tt ≡ row_answer marks s row = search rules in
     let c0 = c.count-count.ensures.value in
-    let distinct : Distinct (entry row) (length ms) (length ms) = subst (λ k. Distinct (entry row) k k) c0 (c.in-None.ensures.passes.0 refl) in
+    let distinct : Distinct (entry row) (length ms) (length ms) = subst (λ k. Distinct (entry row) k k) c0 (c.in_default.ensures.passes.0 refl) in
     let names = table_in n (length ms) (entry row) (c.from_row-self.ensures.count ∙ c.count-count.ensures.value) (λ y a b. c.from_row-self.ensures.names y a (omega arith)) distinct in
     record {
       value = is;

@@ -1,7 +1,0 @@
-use Rattle.std.proofs.Common.{not}
-use Rattle.numbers.specs.First.{NonePasses}
-use Rattle.plan.specs.Checks.{known}
-use Rattle.plan.proofs.header.Header.check_events.Given as goal
-
-abbrev pub invariant-loop-event : goal.invariant-loop-event
-invariant-loop-event l = NonePasses (λ i. not (known l.self l.file i)) 1 l.event
