@@ -41,7 +41,7 @@ fn play_file<S: CellStore, R: Rule>(rig: &mut Rig<S, R>, file: &[u8])
     ensures after { world S.marks rig.new ≡ run (meaning_of R.Rule) (world S.marks rig.old) (events_of (meaning_of R.Rule) file.now) }
     ensures same { S.lender rig.new.store ≡ S.lender rig.old.store }
 {
-    if let Ok(plan) = Plan::decode(file, R::own_number()) {
+    if let Ok(plan) = Plan::decode(file, R::NUMBER) {
         play_plan(rig, &plan);
     }
 }

@@ -31,14 +31,9 @@ use twins::TwinRigs;
 
 // The names moved on by one: the last stands for the first below.
 fn moved_on<S: CellStore + Drop>(heap: Global, store: S) -> anyhow::Result<Renumbered<S>> {
-    let mut above = Renumbered::new(store);
-    let row = (2..=above.count())
-        .chain(iter::once(1))
-        .collect::<Vec<usize>>(heap)?;
-    match above.renumber(row.as_slice()) {
-        Ok(()) => Ok(above),
-        Err(_) => Err(anyhow!("the names moved on were refused")),
-    }
+    let row: Vec<usize> = (2..=store.count()).chain(iter::once(1)).collect(heap)?;
+    Renumbered::with_row(store, row.as_slice())
+        .map_err(|_| anyhow!("the names moved on were refused"))
 }
 
 // The word for what a load answered.
@@ -76,7 +71,7 @@ fn play_script<S: CellStore, T: CellStore, U: CellStore, R: Rule>(
     script: &Script<'_>,
 ) -> anyhow::Result<bool> {
     let answers = rehearse(first, second, third, script);
-    let rule = R::own_number();
+    let rule = R::NUMBER;
     println!(rt; "rule {rule}")?;
     let loads = tell_loads(rt, &answers)?;
     let twins = match decode_twins(script, rule) {
@@ -88,8 +83,7 @@ fn play_script<S: CellStore, T: CellStore, U: CellStore, R: Rule>(
         .tell(rt)?,
         Err(_) => false,
     };
-    let sizes = script.standoff.sizes;
-    let together = smallest_common_factor(sizes.agents, sizes.cells).unwrap_or(0);
+    let together = smallest_common_factor(script.standoff.sizes).unwrap_or(0);
     let standoff = tell_standoff(rt, third, together)?;
     Ok(loads && twins && standoff)
 }
@@ -136,7 +130,7 @@ fn run_act<R: Rule + Copy>(rt: &HostRuntime, rule: R, act: Act) -> anyhow::Resul
             rounds: rounds.as_slice(),
         },
     };
-    let Ok(accepted) = Plan::decode(script.plan, R::own_number()) else {
+    let Ok(accepted) = Plan::decode(script.plan, R::NUMBER) else {
         return Err(anyhow!("the plan is refused"));
     };
     let mut image = vec![in rt.alloc(); 0u8; accepted.cells().saturating_mul(4)]?;

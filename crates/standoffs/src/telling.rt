@@ -55,7 +55,7 @@ fn tell_rounds<S: CellStore, R: Rule>(
 
 // Adds the report.
 fn tell_report<S: CellStore, R: Rule>(rig: &Rig<S, R>, text: &mut Vec<u8>) -> Result<(), AllocError>
-    ensures after { OnOk result (text.new.items ≡ text.old.items ++ report_text R.number (world S.marks rig.now)) }
+    ensures after { OnOk result (text.new.items ≡ text.old.items ++ report_text R.NUMBER (world S.marks rig.now)) }
 {
     let mut buffer = [0; MAX_REPORT];
     match report(rig, &mut buffer) {
