@@ -12,18 +12,18 @@ use Rattle.runs.proofs.Views.{named_there}
 use Rattle.playing.specs.Runs.{after_some}
 
 module _ {P : Type 0} (R : Meaning P) where
-  pub run_more : (es : List Event) (i : ℕ) (w v end : World P) (o : Option Event) → i < length es → o ≡ named es (i + 1) → v ≡ after_some R w o → run R w (drop i es) ≡ end → run R v (drop (i + 1) es) ≡ end
-  run_more es i w v end o less found is inv =
+  -- the event with name i is heard
+  pub run_more : (es : List Event) (i : ℕ) (w v end : World P) (o : Option Event) → 1 ≤ i → i ≤ length es → o ≡ named es i → v ≡ after_some R w o → run R w (drop (i - 1) es) ≡ end → run R v (drop (i + 1 - 1) es) ≡ end
+  run_more es i w v end o from upto found is inv =
       let d = Request 0 in
-      let back : i + 1 - 1 ≡ i = omega arith in
-      let there : o ≡ Some (get_or es i d) = found ∙ named_there es (i + 1) d (omega arith) (omega arith) ∙ ap (λ j. Some (get_or es j d)) back in
-      ap (λ u. run R u (drop (i + 1) es)) (is ∙ ap (after_some R w) there) ∙ sym (at_drop_more (run R w) es i d less) ∙ inv
+      let there : o ≡ Some (get_or es (i - 1) d) = found ∙ named_there es i d from upto in
+      let back : i + 1 - 1 ≡ i - 1 + 1 = omega arith in
+      ap (λ j. run R v (drop j es)) back
+      ∙ ap (λ u. run R u (drop (i - 1 + 1) es)) (is ∙ ap (after_some R w) there)
+      ∙ sym (at_drop_more (run R w) es (i - 1) d (omega arith))
+      ∙ inv
 
-  pub run_all : (es : List Event) (i : ℕ) (w end : World P) → length es ≤ i → run R w (drop i es) ≡ end → w ≡ end
-  run_all es i w end past inv = sym (at_drop_all (run R w) es i past) ∙ inv
-
-  pub rounds_more : (rs : List Round) (i : ℕ) (d : Round) (w v end : World P) → i < length rs → v ≡ after_round R w (get_or rs i d) → rounds R w (drop i rs) ≡ end → rounds R v (drop (i + 1) rs) ≡ end
-  rounds_more rs i d w v end less is inv = ap (λ u. rounds R u (drop (i + 1) rs)) is ∙ sym (at_drop_more (rounds R w) rs i d less) ∙ inv
-
-  pub rounds_all : (rs : List Round) (i : ℕ) (w end : World P) → length rs ≤ i → rounds R w (drop i rs) ≡ end → w ≡ end
-  rounds_all rs i w end past inv = sym (at_drop_all (rounds R w) rs i past) ∙ inv
+  -- and it is the last
+  pub run_last : (es : List Event) (i : ℕ) (w v end : World P) (o : Option Event) → 1 ≤ i → i ≤ length es → length es ≤ i → o ≡ named es i → v ≡ after_some R w o → run R w (drop (i - 1) es) ≡ end → v ≡ end
+  run_last es i w v end o from upto last found is inv =
+      sym (at_drop_all (run R v) es (i + 1 - 1) (omega arith)) ∙ run_more es i w v end o from upto found is inv

@@ -6,6 +6,6 @@ mod playing;
 mod rehearsal;
 mod theorems;
 
-pub use playing::{play_plan, play_rounds, run_file, run_standoff};
+pub use playing::{StandoffScript, play_plan, play_rounds, run_file, run_standoff};
 pub use rehearsal::{Rehearsal, Script, rehearse};
-pub use theorems::{play, play_standoff, play_twins};
+pub use theorems::{TwinLoads, play, play_standoff, play_twins};

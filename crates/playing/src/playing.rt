@@ -10,6 +10,7 @@ ghost use Rattle.playing.specs.Runs.{after_some, events_of, after_run, after_rou
 
 use cells::CellStore;
 use model::Round;
+use numbers::sizes::Sizes;
 use plan::{Event, Plan};
 use refusal::Refusal;
 use rig::Rig;
@@ -30,8 +31,8 @@ pub fn play_plan<S: CellStore, R: Rule>(rig: &mut Rig<S, R>, plan: &Plan<'_>)
     ensures after { world S.marks rig.new ≡ run (meaning_of R.Rule) (world S.marks rig.old) (model plan.now).events }
     ensures same { S.lender rig.new.store ≡ S.lender rig.old.store }
 {
-    for before in 0..plan.event_count() {
-        play_event(rig, plan.event(before + 1));
+    for index in 1..=plan.event_count() {
+        play_event(rig, plan.event(index));
     }
 }
 
@@ -40,7 +41,7 @@ fn play_file<S: CellStore, R: Rule>(rig: &mut Rig<S, R>, file: &[u8])
     ensures after { world S.marks rig.new ≡ run (meaning_of R.Rule) (world S.marks rig.old) (events_of (meaning_of R.Rule) file.now) }
     ensures same { S.lender rig.new.store ≡ S.lender rig.old.store }
 {
-    if let Ok(plan) = Plan::decode(file, R::own_number()) {
+    if let Ok(plan) = Plan::decode(file, R::NUMBER) {
         play_plan(rig, &plan);
     }
 }
@@ -65,23 +66,28 @@ pub fn play_rounds<S: CellStore, R: Rule>(rig: &mut Rig<S, R>, given: &[Round])
     ensures after { world S.marks rig.new ≡ rounds (meaning_of R.Rule) (world S.marks rig.old) given.now }
     ensures same { S.lender rig.new.store ≡ S.lender rig.old.store }
 {
-    for before in 0..given.len() {
-        let _ = rig.round(given[before]);
+    for round in given {
+        let _ = rig.round(*round);
     }
 }
 
-// Loads a stand-off and plays rounds on it.
+// A stand-off to load, and the rounds to play on it.
+#[derive(Clone, Copy)]
+pub struct StandoffScript<'a> {
+    pub sizes: Sizes,
+    pub rounds: &'a [Round],
+}
+
+// Loads a stand-off and plays its rounds.
 pub fn run_standoff<S: CellStore, R: Rule>(
     rig: &mut Rig<S, R>,
-    agents: usize,
-    cells: usize,
-    given: &[Round],
+    script: &StandoffScript<'_>,
 ) -> Result<(), Refusal>
-    ensures value { result ≡ standoff_answer (meaning_of R.Rule) (world S.marks rig.old) agents cells }
-    ensures after { world S.marks rig.new ≡ after_rounds (meaning_of R.Rule) (world S.marks rig.old) agents cells given.now }
+    ensures value { result ≡ standoff_answer (meaning_of R.Rule) (world S.marks rig.old) script.now.sizes.agents script.now.sizes.cells }
+    ensures after { world S.marks rig.new ≡ after_rounds (meaning_of R.Rule) (world S.marks rig.old) script.now.sizes.agents script.now.sizes.cells script.now.rounds.now }
     ensures same { S.lender rig.new.store ≡ S.lender rig.old.store }
 {
-    rig.load_standoff(agents, cells)?;
-    play_rounds(rig, given);
+    rig.load_standoff(script.sizes.agents, script.sizes.cells)?;
+    play_rounds(rig, script.rounds);
     Ok(())
 }

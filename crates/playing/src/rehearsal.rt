@@ -8,12 +8,11 @@ ghost use Rattle.renumbering.specs.Renumbering.{RenumberingInvisible};
 ghost use Rattle.rig.specs.Worlds.{world};
 ghost use Rattle.playing.specs.Runs.{after_run, after_rounds};
 
-use crate::playing::run_standoff;
-use crate::theorems::play_twins;
+use crate::playing::{StandoffScript, run_standoff};
+use crate::theorems::{TwinLoads, play_twins};
 use cells::CellStore;
 use exclusion::exclusive_rules;
 use lockstep::{fruitless_rules, same_section};
-use model::Round;
 use refusal::Refusal;
 use rig::Rig;
 use rules::Rule;
@@ -23,16 +22,13 @@ use rules::Rule;
 pub struct Script<'a> {
     pub plan: &'a [u8],
     pub twin: &'a [u8],
-    pub agents: usize,
-    pub cells: usize,
-    pub rounds: &'a [Round],
+    pub standoff: StandoffScript<'a>,
 }
 
 // What the three loads answered.
-#[derive(Clone, Copy)]
+#[derive(Clone, Copy, PartialEq, Eq, Debug)]
 pub struct Rehearsal {
-    pub plan: Result<(), Refusal>,
-    pub twin: Result<(), Refusal>,
+    pub twins: TwinLoads,
     pub standoff: Result<(), Refusal>,
 }
 
@@ -48,12 +44,12 @@ pub fn rehearse<S: CellStore, T: CellStore, U: CellStore, R: Rule>(
     third: &mut Rig<U, R>,
     script: &Script<'_>,
 ) -> Rehearsal
-    ensures plan { result.plan ≡ load_answer (meaning_of R.Rule) (world S.marks first.old) script.now.plan.now }
-    ensures twin { result.twin ≡ load_answer (meaning_of R.Rule) (world T.marks second.old) script.now.twin.now }
-    ensures standoff { result.standoff ≡ standoff_answer (meaning_of R.Rule) (world U.marks third.old) script.now.agents script.now.cells }
+    ensures plan { result.twins.plan ≡ load_answer (meaning_of R.Rule) (world S.marks first.old) script.now.plan.now }
+    ensures twin { result.twins.twin ≡ load_answer (meaning_of R.Rule) (world T.marks second.old) script.now.twin.now }
+    ensures standoff { result.standoff ≡ standoff_answer (meaning_of R.Rule) (world U.marks third.old) script.now.standoff.sizes.agents script.now.standoff.sizes.cells }
     ensures after_plan { world S.marks first.new ≡ after_run (meaning_of R.Rule) (world S.marks first.old) script.now.plan.now script.now.plan.now }
     ensures after_twin { world T.marks second.new ≡ after_run (meaning_of R.Rule) (world T.marks second.old) script.now.twin.now script.now.plan.now }
-    ensures after_standoff { world U.marks third.new ≡ after_rounds (meaning_of R.Rule) (world U.marks third.old) script.now.agents script.now.cells script.now.rounds.now }
+    ensures after_standoff { world U.marks third.new ≡ after_rounds (meaning_of R.Rule) (world U.marks third.old) script.now.standoff.sizes.agents script.now.standoff.sizes.cells script.now.standoff.rounds.now }
     ensures no_two_holders_by_read_write { NoTwoHolders read_and_write }
     ensures no_two_holders_by_majority { NoTwoHolders by_majority }
     ensures no_two_holders_by_ladder { NoTwoHolders by_ladder }
@@ -67,11 +63,8 @@ pub fn rehearse<S: CellStore, T: CellStore, U: CellStore, R: Rule>(
     let _ = exclusive_rules();
     let _ = fruitless_rules();
     let _ = same_section::<R>();
-    let (plan, twin) = play_twins(first, second, script.plan, script.twin);
-    let standoff = run_standoff(third, script.agents, script.cells, script.rounds);
     Rehearsal {
-        plan,
-        twin,
-        standoff,
+        twins: play_twins(first, second, script.plan, script.twin),
+        standoff: run_standoff(third, &script.standoff),
     }
 }

@@ -8,11 +8,10 @@ ghost use Rattle.renumbering.specs.Renumbering.{RenumberingInvisible};
 ghost use Rattle.rig.specs.Worlds.{world};
 ghost use Rattle.playing.specs.Runs.{after_run, after_rounds};
 
-use crate::playing::{run_file, run_standoff};
+use crate::playing::{StandoffScript, run_file, run_standoff};
 use cells::CellStore;
 use exclusion::{ExclusiveRule, no_two_holders};
 use lockstep::{nobody_holds, same_section};
-use model::Round;
 use refusal::Refusal;
 use renumbering::renumbering_unseen;
 use rig::Rig;
@@ -29,6 +28,13 @@ pub fn play<S: CellStore, R: ExclusiveRule>(rig: &mut Rig<S, R>, file: &[u8]) ->
     run_file(rig, file, file)
 }
 
+// What the loads of a plan and of its twin answered.
+#[derive(Clone, Copy, PartialEq, Eq, Debug)]
+pub struct TwinLoads {
+    pub plan: Result<(), Refusal>,
+    pub twin: Result<(), Refusal>,
+}
+
 // Loads a plan file into one rig and another into a second one, over whatever stores, and plays the events of the first
 // on both. Where the second plan renumbers the cells of the first and has other identities, the rigs answer alike.
 pub fn play_twins<S: CellStore, T: CellStore, R: Rule>(
@@ -36,9 +42,9 @@ pub fn play_twins<S: CellStore, T: CellStore, R: Rule>(
     second: &mut Rig<T, R>,
     file: &[u8],
     twin: &[u8],
-) -> (Result<(), Refusal>, Result<(), Refusal>)
-    ensures value { result.0 ≡ load_answer (meaning_of R.Rule) (world S.marks first.old) file.now }
-    ensures value_second { result.1 ≡ load_answer (meaning_of R.Rule) (world T.marks second.old) twin.now }
+) -> TwinLoads
+    ensures value { result.plan ≡ load_answer (meaning_of R.Rule) (world S.marks first.old) file.now }
+    ensures value_second { result.twin ≡ load_answer (meaning_of R.Rule) (world T.marks second.old) twin.now }
     ensures after { world S.marks first.new ≡ after_run (meaning_of R.Rule) (world S.marks first.old) file.now file.now }
     ensures after_second { world T.marks second.new ≡ after_run (meaning_of R.Rule) (world T.marks second.old) twin.now file.now }
     ensures same { S.lender first.new.store ≡ S.lender first.old.store }
@@ -46,23 +52,24 @@ pub fn play_twins<S: CellStore, T: CellStore, R: Rule>(
     ensures invisible { RenumberingInvisible (meaning_of R.Rule) }
 {
     let _ = renumbering_unseen::<R>();
-    (run_file(first, file, file), run_file(second, twin, file))
+    TwinLoads {
+        plan: run_file(first, file, file),
+        twin: run_file(second, twin, file),
+    }
 }
 
-// Loads a stand-off and plays rounds on it. The agents that move together stay in the same section, and nobody holds.
+// Loads a stand-off and plays its rounds. The agents that move together stay in the same section, and nobody holds.
 pub fn play_standoff<S: CellStore, R: ExclusiveRule>(
     rig: &mut Rig<S, R>,
-    agents: usize,
-    cells: usize,
-    given: &[Round],
+    script: &StandoffScript<'_>,
 ) -> Result<(), Refusal>
-    ensures value { result ≡ standoff_answer (meaning_of R.Rule) (world S.marks rig.old) agents cells }
-    ensures after { world S.marks rig.new ≡ after_rounds (meaning_of R.Rule) (world S.marks rig.old) agents cells given.now }
+    ensures value { result ≡ standoff_answer (meaning_of R.Rule) (world S.marks rig.old) script.now.sizes.agents script.now.sizes.cells }
+    ensures after { world S.marks rig.new ≡ after_rounds (meaning_of R.Rule) (world S.marks rig.old) script.now.sizes.agents script.now.sizes.cells script.now.rounds.now }
     ensures same { S.lender rig.new.store ≡ S.lender rig.old.store }
     ensures same_section { SameSection (meaning_of R.Rule) }
     ensures nobody_holds { NobodyHolds (meaning_of R.Rule) }
 {
     let _ = same_section::<R>();
     let _ = nobody_holds::<R>();
-    run_standoff(rig, agents, cells, given)
+    run_standoff(rig, script)
 }

@@ -10,27 +10,16 @@ use Rattle.rehearsals.specs.Answers.{same_section, both_tell, apart, together}
 
 section_is : (s t : Section) → same_section s t ≡ true → s ≡ t
 section_is Idle Idle e = refl
-section_is Idle Asking e = absurd (true≢false (sym e))
-section_is Idle Holding e = absurd (true≢false (sym e))
-section_is Idle Leaving e = absurd (true≢false (sym e))
-section_is Asking Idle e = absurd (true≢false (sym e))
 section_is Asking Asking e = refl
-section_is Asking Holding e = absurd (true≢false (sym e))
-section_is Asking Leaving e = absurd (true≢false (sym e))
-section_is Holding Idle e = absurd (true≢false (sym e))
-section_is Holding Asking e = absurd (true≢false (sym e))
 section_is Holding Holding e = refl
-section_is Holding Leaving e = absurd (true≢false (sym e))
-section_is Leaving Idle e = absurd (true≢false (sym e))
-section_is Leaving Asking e = absurd (true≢false (sym e))
-section_is Leaving Holding e = absurd (true≢false (sym e))
 section_is Leaving Leaving e = refl
+section_is _ _ e = cc
 
 answer_is : (a b : Result Section Refusal) → both_tell same_section a b ≡ true → a ≡ b
 answer_is (Ok s) (Ok t) e = ap Ok (section_is s t e)
-answer_is (Ok s) (Err y) e = absurd (true≢false (sym e))
-answer_is (Err x) (Ok t) e = absurd (true≢false (sym e))
-answer_is (Err x) (Err y) e = absurd (true≢false (sym e))
+answer_is (Ok s) (Err y) e = cc
+answer_is (Err x) (Ok t) e = cc
+answer_is (Err x) (Err y) e = cc
 
 module _ {P : Type 0} (g : Rig P) (l : ℕ) where
   -- agents that are together are in the same section

@@ -1,2 +1,3 @@
 pub mod AnswerLaws
+pub mod SearchLaws
 pub mod TwinLaws

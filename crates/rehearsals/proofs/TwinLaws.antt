@@ -1,5 +1,5 @@
 -- What the tests of twins tell. Assumes nothing.
-use Rattle.std.proofs.Common.{◌≡◌, ℕ, ◌+◌, true, eqb, is_some, Some, None, Ok, Option, sym, refl, ap, ◌∙◌, ⊎_elim, arith}
+use Rattle.std.proofs.Common.{◌≡◌, ℕ, ◌+◌, true, is_some, Some, None, Ok, Option, sym, refl, ap, ◌∙◌, ⊎_elim, arith}
 use Rattle.std.proofs.lemmas.Bool.{eqb-true, and_parts, true≢false}
 use Rattle.numbers.specs.First.{first_of}
 use Rattle.numbers.specs.Names.{named}
@@ -29,21 +29,13 @@ module _ (p q : Sayings) where
   -- a pair of marks that passes is a mark and the same with identities replaced
   pub replaced_tells : (a b : Mark) → replaced p q a b ≡ true → Replaces p q (Ok a) (Ok b)
   replaced_tells Empty Empty e = empty refl refl
-  replaced_tells Empty (Owner j) e = absurd (true≢false (sym e))
-  replaced_tells Empty (Rung s) e = absurd (true≢false (sym e))
-  replaced_tells (Owner i) Empty e = absurd (true≢false (sym e))
   replaced_tells (Owner i) (Owner j) e = owner_replaces i j e
-  replaced_tells (Owner i) (Rung s) e = absurd (true≢false (sym e))
-  replaced_tells (Rung r) Empty e = absurd (true≢false (sym e))
-  replaced_tells (Rung r) (Owner j) e = absurd (true≢false (sym e))
   replaced_tells (Rung r) (Rung s) e = rung r refl (ap (λ t. Ok (Rung t)) (sym (eqb-true r s e)))
+  replaced_tells _ _ e = absurd (true≢false (sym e))
 
-  -- what is tested of two owners, and of two rungs
+  -- what is tested of two owners
   pub owners_tested : (a b : Mark) (i j : ℕ) → a ≡ Owner i → b ≡ Owner j → replaced p q a b ≡ is_some (first_of (has_both p q i j) 1 p.agents)
   owners_tested a b i j e f = ap (λ a. replaced p q a b) e ∙ ap (replaced p q (Owner i)) f
-
-  pub rungs_tested : (a b : Mark) (r s : ℕ) → a ≡ Rung r → b ≡ Rung s → replaced p q a b ≡ eqb r s
-  rungs_tested a b r s e f = ap (λ a. replaced p q a b) e ∙ ap (replaced p q (Rung r)) f
 
   -- the cell that is found is the new name, under every renumbering from the first plan to the second
   pub name_renumbers : (y : ℕ) (σ : ℕ → ℕ) (z : ℕ) → Renumbers σ p q → name_in_twin p q y ≡ Some z → z ≡ σ y

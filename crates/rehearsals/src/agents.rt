@@ -4,7 +4,7 @@ ghost use Rattle.model.specs.Rigs.{section_answer, figures_answer};
 ghost use Rattle.rig.specs.Worlds.{rig_of};
 ghost use Rattle.rehearsals.specs.Answers.{same_section, same_figures, both_tell, together};
 
-use crate::sections::{tell_same_figures, tell_same_section};
+use crate::answers::tell_same;
 use cells::CellStore;
 use rig::Rig;
 use rules::Rule;
@@ -19,8 +19,14 @@ pub fn is_alike<S: CellStore, T: CellStore, R: Rule>(
     ensures sections { result ≡ true → section_answer (rig_of one.now) k ≡ section_answer (rig_of other.now) k }
     ensures figures { result ≡ true → figures_answer (rig_of one.now) k ≡ figures_answer (rig_of other.now) k }
 {
-    tell_same_section(one.section(k), other.section(k))
-        && tell_same_figures(one.figures(k), other.figures(k))
+    tell_same(one.section(k), other.section(k)) && tell_same(one.figures(k), other.figures(k))
+}
+
+// Whether agent k is there, and in the section of agent 1.
+fn is_with_first<S: CellStore, R: Rule>(rig: &Rig<S, R>, k: usize) -> bool
+    ensures value { result ≡ both_tell same_section (section_answer (rig_of rig.now) k) (section_answer (rig_of rig.now) 1) }
+{
+    tell_same(rig.section(k), rig.section(1))
 }
 
 // Whether the first agents, so many, are all there and in the same section.
@@ -28,10 +34,5 @@ pub fn are_together<S: CellStore, R: Rule>(rig: &Rig<S, R>, agents: usize) -> bo
     ensures value { result ≡ together (rig_of rig.now) agents }
     ensures sections { result ≡ true → (j k : ℕ) → 1 ≤ j → j ≤ agents → 1 ≤ k → k ≤ agents → section_answer (rig_of rig.now) j ≡ section_answer (rig_of rig.now) k }
 {
-    for before in 0..agents {
-        if !tell_same_section(rig.section(before + 1), rig.section(1)) {
-            return false;
-        }
-    }
-    true
+    (1..=agents).all(|k| is_with_first(rig, k))
 }

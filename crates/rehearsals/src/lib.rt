@@ -3,10 +3,10 @@
 #![tactic(auto)]
 
 mod agents;
+mod answers;
 mod marks;
 mod names;
-mod sections;
+mod twins;
 
 pub use agents::{are_together, is_alike};
-pub use marks::is_replaced;
-pub use names::name_in_twin;
+pub use twins::Twins;

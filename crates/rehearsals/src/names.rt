@@ -1,31 +1,36 @@
 // A plan's cells and its twin's.
 ghost use Rattle.std.specs.Prelude.{◌≡◌, ℕ, Some};
+ghost use Rattle.numbers.specs.First.{first_of};
 ghost use Rattle.plan.specs.Plans.{model, entry_named};
 ghost use Rattle.renumbering.specs.Renumbering.{Renumbers};
 ghost use Rattle.rehearsals.specs.Twins.{is_number, name_in_twin};
 
-use plan::Plan;
+use crate::twins::Twins;
 
-// Whether agent 1 calls that cell by that name.
-fn is_called(plan: &Plan<'_>, name: usize, cell: usize) -> bool
-    ensures value { result ≡ is_number (entry_named (model plan.now) 1 name) cell }
-{
-    match plan.table_entry(1, name) {
-        Some(entry) => usize::from(entry) == cell,
-        None => false,
+impl Twins<'_> {
+    // Whether agent 1 of the plan calls that cell by that name.
+    fn is_called(&self, name: usize, cell: usize) -> bool
+        ensures value { result ≡ is_number (entry_named (model self.now.plan) 1 name) cell }
+    {
+        self.plan
+            .table_entry(1, name)
+            .is_some_and(|entry| usize::from(entry) == cell)
     }
-}
 
-// The cell that agent 1 of the twin calls as agent 1 of the plan calls this cell. Where the twin renumbers the cells of
-// the plan, it is the new name of this cell.
-pub fn name_in_twin(plan: &Plan<'_>, twin: &Plan<'_>, cell: usize) -> Option<u8>
-    ensures value { result ≡ name_in_twin (model plan.now) (model twin.now) cell }
-    ensures renumbered { (σ : ℕ → ℕ) (z : ℕ) → Renumbers σ (model plan.now) (model twin.now) → result ≡ Some z → z ≡ σ cell }
-{
-    for before in 0..plan.cells() {
-        if is_called(plan, before + 1, cell) {
-            return twin.table_entry(1, before + 1);
-        }
+    // The first name by which agent 1 of the plan calls that cell.
+    fn name_in_plan(&self, cell: usize) -> Option<usize>
+        ensures value { result ≡ first_of (λ x. is_number (entry_named (model self.now.plan) 1 x) cell) 1 (model self.now.plan).cells }
+    {
+        (1..=self.plan.cells()).find(|name| self.is_called(*name, cell))
     }
-    None
+
+    // The cell that agent 1 of the twin calls as agent 1 of the plan calls this cell. Where the twin renumbers the cells
+    // of the plan, it is the new name of this cell.
+    pub fn name_in_twin(&self, cell: usize) -> Option<u8>
+        ensures value { result ≡ name_in_twin (model self.now.plan) (model self.now.twin) cell }
+        ensures renumbered { (σ : ℕ → ℕ) (z : ℕ) → Renumbers σ (model self.now.plan) (model self.now.twin) → result ≡ Some z → z ≡ σ cell }
+    {
+        let name = self.name_in_plan(cell)?;
+        self.twin.table_entry(1, name)
+    }
 }

@@ -14,9 +14,10 @@ use cells::CellStore;
 use mark_table::MarkTable;
 use numbers::factors::smallest_common_factor;
 use plan::Plan;
-use playing::{Rehearsal, Script, rehearse};
+use playing::{Rehearsal, Script, StandoffScript, rehearse};
 use record_file::RecordFile;
 use refusal::Refusal;
+use rehearsals::Twins;
 use renumbered::Renumbered;
 use rig::{Rig, Seats};
 use rule_ladder::Ladder;
@@ -24,57 +25,41 @@ use rule_majority::Majority;
 use rule_read_write::ReadWrite;
 use rules::Rule;
 use standoffs::tell_standoff;
-use std::fs;
-use twins::{tell_agents, tell_cells, tell_holder};
+use std::alloc::Global;
+use std::{fs, iter};
+use twins::TwinRigs;
 
 // The names moved on by one: the last stands for the first below.
-fn moved_on<S: CellStore + Drop>(store: S, row: &mut Vec<usize>) -> anyhow::Result<Renumbered<S>> {
-    let mut above = Renumbered::new(store);
-    row.clear();
-    for name in 2..=above.count() {
-        row.push(name)?;
-    }
-    row.push(1)?;
-    match above.renumber(row.as_slice()) {
-        Ok(()) => Ok(above),
-        Err(_) => Err(anyhow!("the names moved on were refused")),
-    }
+fn moved_on<S: CellStore + Drop>(heap: Global, store: S) -> anyhow::Result<Renumbered<S>> {
+    let row: Vec<usize> = (2..=store.count()).chain(iter::once(1)).collect(heap)?;
+    Renumbered::with_row(store, row.as_slice())
+        .map_err(|_| anyhow!("the names moved on were refused"))
 }
 
 // The word for what a load answered.
 fn load_word(answer: Result<(), Refusal>) -> &'static str {
-    match answer {
-        Ok(()) => "accepted",
-        Err(_) => "refused",
+    if answer.is_ok() {
+        "accepted"
+    } else {
+        "refused"
     }
 }
 
 // What the loads answered.
 fn tell_loads(rt: &impl Print, answers: &Rehearsal) -> anyhow::Result<bool> {
-    let plan = load_word(answers.plan);
-    let twin = load_word(answers.twin);
+    let plan = load_word(answers.twins.plan);
+    let twin = load_word(answers.twins.twin);
     let standoff = load_word(answers.standoff);
     println!(rt; "plan {plan}, twin {twin}, stand-off {standoff}")?;
-    Ok(answers.plan.is_ok() && answers.twin.is_ok() && answers.standoff.is_ok())
+    Ok(answers.twins.plan.is_ok() && answers.twins.twin.is_ok() && answers.standoff.is_ok())
 }
 
-// What a plan's rig and its twin's answer.
-fn tell_twins<S: CellStore, T: CellStore, R: Rule>(
-    rt: &impl Print,
-    first: &Rig<S, R>,
-    second: &Rig<T, R>,
-    script: &Script<'_>,
-) -> anyhow::Result<bool> {
-    let Ok(plan) = Plan::decode(script.plan, R::own_number()) else {
-        return Ok(false);
-    };
-    let Ok(twin) = Plan::decode(script.twin, R::own_number()) else {
-        return Ok(false);
-    };
-    let agents = tell_agents(rt, first, second)?;
-    let cells = tell_cells(rt, first, second, &plan, &twin)?;
-    let holder = tell_holder(rt, first, second)?;
-    Ok(agents && cells && holder)
+// The plan and its twin.
+fn decode_twins<'a>(script: &Script<'a>, rule: u8) -> Result<Twins<'a>, Refusal> {
+    Ok(Twins {
+        plan: Plan::decode(script.plan, rule)?,
+        twin: Plan::decode(script.twin, rule)?,
+    })
 }
 
 // Plays the script on three blank rigs, and tells what they answer.
@@ -86,12 +71,20 @@ fn play_script<S: CellStore, T: CellStore, U: CellStore, R: Rule>(
     script: &Script<'_>,
 ) -> anyhow::Result<bool> {
     let answers = rehearse(first, second, third, script);
-    let rule = R::own_number();
+    let rule = R::NUMBER;
     println!(rt; "rule {rule}")?;
     let loads = tell_loads(rt, &answers)?;
-    let twins = tell_twins(rt, &*first, &*second, script)?;
-    let together = smallest_common_factor(script.agents, script.cells).unwrap_or(0);
-    let standoff = tell_standoff(rt, &*third, together)?;
+    let twins = match decode_twins(script, rule) {
+        Ok(twins) => TwinRigs {
+            first,
+            second,
+            twins,
+        }
+        .tell(rt)?,
+        Err(_) => false,
+    };
+    let together = smallest_common_factor(script.standoff.sizes).unwrap_or(0);
+    let standoff = tell_standoff(rt, third, together)?;
     Ok(loads && twins && standoff)
 }
 
@@ -102,14 +95,13 @@ fn play_act<R: Rule + Copy>(
     script: &Script<'_>,
     image: &mut [u8],
 ) -> anyhow::Result<bool> {
-    let mut row = Vec::new(rt.alloc());
-    let file = moved_on(RecordFile::new(image), &mut row)?;
+    let file = moved_on(rt.alloc(), RecordFile::new(image))?;
     let one = Seats::new(rt.alloc())?;
     let two = Seats::new(rt.alloc())?;
     let three = Seats::new(rt.alloc())?;
     let mut first = Rig::new(MarkTable::new(file.count()), rule, one);
     let mut second = Rig::new(file, rule, two);
-    let mut third = Rig::new(MarkTable::new(script.cells), rule, three);
+    let mut third = Rig::new(MarkTable::new(script.standoff.sizes.cells), rule, three);
     let told = play_script(rt, &mut first, &mut second, &mut third, script);
     let _ = first.into_store();
     let _ = second.into_store();
@@ -117,20 +109,28 @@ fn play_act<R: Rule + Copy>(
     told
 }
 
+// One of the files of an act.
+fn read_file(rt: &HostRuntime, act: Act, part: &str) -> anyhow::Result<Vec<u8>> {
+    let name = act.name;
+    let path = format!(in rt.alloc(); "{name}.{part}")?;
+    Ok(fs::read(rt, path)?)
+}
+
 // Rehearses one rule.
 fn run_act<R: Rule + Copy>(rt: &HostRuntime, rule: R, act: Act) -> anyhow::Result<bool> {
-    let plan = fs::read(rt, act.plan)?;
-    let twin = fs::read(rt, act.twin)?;
-    let letters = fs::read(rt, act.rounds)?;
+    let plan = read_file(rt, act, "plan")?;
+    let twin = read_file(rt, act, "twin")?;
+    let letters = read_file(rt, act, "rounds")?;
     let rounds = rounds_of(rt.alloc(), letters.as_slice())?;
     let script = Script {
         plan: plan.as_slice(),
         twin: twin.as_slice(),
-        agents: act.agents,
-        cells: act.cells,
-        rounds: rounds.as_slice(),
+        standoff: StandoffScript {
+            sizes: act.sizes,
+            rounds: rounds.as_slice(),
+        },
     };
-    let Ok(accepted) = Plan::decode(script.plan, R::own_number()) else {
+    let Ok(accepted) = Plan::decode(script.plan, R::NUMBER) else {
         return Err(anyhow!("the plan is refused"));
     };
     let mut image = vec![in rt.alloc(); 0u8; accepted.cells().saturating_mul(4)]?;

@@ -1,5 +1,4 @@
 // What a stand-off came to.
-use crate::twins::section_word;
 use cells::CellStore;
 use rehearsals::are_together;
 use rig::Rig;
@@ -13,7 +12,6 @@ fn tell_sections<S: CellStore, R: Rule>(
 ) -> anyhow::Result<()> {
     for k in 1..=together {
         if let Ok(section) = rig.section(k) {
-            let section = section_word(section);
             println!(rt; "stand-off agent {k} {section}")?;
         }
     }
@@ -46,12 +44,13 @@ pub fn tell_standoff<S: CellStore, R: Rule>(
     };
     println!(rt; "stand-off {together} move together, {sections}")?;
     let crowd = rig.crowd();
-    let holder = rig.holder().unwrap_or(0);
-    let held = if holder == 0 {
+    let holder = rig.holder();
+    let held = if holder.is_none() {
         "nobody holds"
     } else {
         "somebody holds"
     };
-    println!(rt; "stand-off crowd {crowd} holder {holder}, {held}")?;
-    Ok(same && holder == 0)
+    let number = holder.unwrap_or(0);
+    println!(rt; "stand-off crowd {crowd} holder {number}, {held}")?;
+    Ok(same && holder.is_none())
 }

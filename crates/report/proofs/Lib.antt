@@ -1,6 +1,6 @@
 pub mod BoundLaws
 pub mod CopyLaws
-pub mod DigitLaws
+pub mod LengthLaws
 pub mod LineLaws
 pub mod TextLaws
 pub mod WholeLaws

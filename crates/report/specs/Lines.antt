@@ -3,18 +3,12 @@ use Rattle.std.specs.Prelude.{ℕ, List, [], ◌∷◌, ◌++◌, Some, None, co
 use Rattle.cells.specs.Marks.{mark_words}
 use Rattle.cells.specs.declared.mark.Mark.{Mark}
 use Rattle.rules.specs.declared.agent.Section.{Section}
-use Rattle.rules.specs.declared.agent.Section.TheVariants.{Idle, Asking, Holding, Leaving}
+pub use Rattle.rules.specs.Sections.{section_word}
 use Rattle.model.specs.declared.Figures.{Figures}
 
 -- the byte that ends a line
 abbrev pub line_end : List ℕ
 line_end = 10 ∷ []
-
-abbrev pub section_word : Section → List ℕ
-section_word Idle = codes "idle"
-section_word Asking = codes "asking"
-section_word Holding = codes "holding"
-section_word Leaving = codes "leaving"
 
 -- the holder's number, 0 where nobody holds
 abbrev pub holder_number : Option ℕ → ℕ

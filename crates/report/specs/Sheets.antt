@@ -1,6 +1,6 @@
--- What is written on a sheet. Assumes nothing.
-use Rattle.std.specs.Prelude.{ℕ, List, take}
-use Rattle.report.specs.declared.sheet.Sheet.{Sheet}
+-- What is put on a sheet. Assumes nothing.
+use Rattle.std.specs.Prelude.{◌≡◌, ℕ, ◌≤◌, List, ◌++◌, length}
 
-abbrev pub written : Sheet → List ℕ
-written s = take s.used s.bytes
+-- the text was put after what stood there, if both together are no longer than a sheet
+pub record Puts (before text after : List ℕ) : Type 0 where
+  pub whole : length (before ++ text) ≤ 2336 → after ≡ before ++ text

@@ -4,11 +4,9 @@
 
 mod copying;
 mod examples;
-mod figures;
 mod lines;
 mod reporting;
 mod sheet;
-mod writing;
 
 pub use examples::{report_after_two_requests, report_of_blank};
 pub use reporting::report;

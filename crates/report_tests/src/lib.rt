@@ -4,3 +4,5 @@
 
 #[cfg(test)]
 mod blank;
+#[cfg(test)]
+mod shown;

@@ -1,5 +1,5 @@
 // What is recorded of an agent.
-ghost use Rattle.std.specs.Prelude.{Some};
+ghost use Rattle.std.specs.Prelude.{◌≡◌, Some};
 ghost use Rattle.rules.specs.Sections.{section_word};
 
 use cells::Mark;
@@ -14,17 +14,25 @@ pub enum Section {
     Leaving,
 }
 
-// `idle`, `asking`, `holding` or `leaving`.
+impl Section {
+    // `idle`, `asking`, `holding` or `leaving`.
+    pub fn word(self) -> &'static str
+        ensures value { result.now ≡ section_word self }
+    {
+        match self {
+            Section::Idle => "idle",
+            Section::Asking => "asking",
+            Section::Holding => "holding",
+            Section::Leaving => "leaving",
+        }
+    }
+}
+
 impl fmt::Display for Section {
     ghost output = { λ s. Some (section_word s) };
 
     fn fmt<W: fmt::Write>(&self, f: &mut fmt::Formatter<W>) -> fmt::Result {
-        match self {
-            Section::Idle => f.write_str("idle"),
-            Section::Asking => f.write_str("asking"),
-            Section::Holding => f.write_str("holding"),
-            Section::Leaving => f.write_str("leaving"),
-        }
+        f.write_str(self.word())
     }
 }
 

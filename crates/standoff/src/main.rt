@@ -22,27 +22,19 @@ const VERSION: &str = "standoff 1.0.0";
 
 // The words behind the program's name.
 fn words(rt: &HostRuntime) -> anyhow::Result<Vec<String>> {
-    let mut words = Vec::new(rt.alloc());
-    for word in env::args(rt)?.skip(1) {
-        words.push(word)?;
-    }
-    Ok(words)
-}
-
-fn is_asked(words: &[String], option: &str) -> bool {
-    words.len() == 1 && words[0].as_str() == option
+    Ok(env::args(rt)?.skip(1).collect(rt.alloc())?)
 }
 
 fn run(rt: &HostRuntime) -> anyhow::Result<()> {
     let words = words(rt)?;
-    if is_asked(words.as_slice(), "--help") {
-        rt.println(HELP)?;
-    } else if is_asked(words.as_slice(), "--version") {
-        rt.println(VERSION)?;
-    } else {
-        let asked = Standoff::read_words(rt.alloc(), words.as_slice())?;
-        let told = asked.told(rt.alloc())?;
-        rt.stdout().write_all(told.as_slice())?;
+    match words.as_slice() {
+        [option] if option.as_str() == "--help" => rt.println(HELP)?,
+        [option] if option.as_str() == "--version" => rt.println(VERSION)?,
+        words => {
+            let asked = Standoff::read_words(rt.alloc(), words)?;
+            let told = asked.told(rt.alloc())?;
+            rt.stdout().write_all(told.as_slice())?;
+        }
     }
     Ok(())
 }

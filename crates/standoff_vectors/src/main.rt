@@ -10,10 +10,10 @@ use std::io::Write;
 fn words(rt: &HostRuntime, name: &str) -> anyhow::Result<Vec<String>> {
     let path = format!(in rt.alloc(); "{name}.args")?;
     let text = fs::read_to_string(rt, path)?;
-    let mut words = Vec::new(rt.alloc());
-    for word in text.split_whitespace() {
-        words.push(String::from_str(rt.alloc(), word)?)?;
-    }
+    let words = text
+        .split_whitespace()
+        .map(|word| String::from_str(rt.alloc(), word))
+        .try_collect(rt.alloc())?;
     Ok(words)
 }
 

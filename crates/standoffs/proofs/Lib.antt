@@ -1,4 +1,3 @@
 pub mod LetterLaws
 pub mod NumberLaws
-pub mod WordLaws
 pub mod ToldLaws

@@ -1,7 +1,7 @@
 -- What std reads of a word without a sign is the number that it writes. Assumes nothing.
-use Rattle.std.proofs.Common.{◌≡◌, ℕ, ◌^◌, ◌<◌, Bool, true, false, not, eqb, ltb, List, [], ◌∷◌, length, get_or, Some, None, Ok, Err, Result, sym, refl, ap, ◌∙◌, subst, arith, rules}
+use Rattle.std.proofs.Common.{◌≡◌, ◌≢◌, ℕ, ◌^◌, ◌<◌, true, ltb, List, length, get_or, Some, None, Ok, Err, Result, sym, refl, ap, ◌∙◌, rules}
 use Rattle.std.proofs.lemmas.Str.Parse.{IsNumeralModel, numerals_by_fold, tells_all_ascii_digits, parse_plain}
-use Rattle.std.proofs.lemmas.Bool.{and_from, and_parts, cond-true, cond_both, lt-ltb, ltb-true, eqb-true, eqb-false}
+use Rattle.std.proofs.lemmas.Bool.{and_from, and_parts, cond-true, cond_both, lt-ltb, ltb-true}
 use Rattle.std.specs.Result.{OkIff, result_ok}
 use Rattle.std.specs.Str.Parse.{ParsesUnsigned}
 use Rattle.std.specs.Str.{all_ascii_digits}
@@ -9,15 +9,6 @@ use Rattle.standoffs.specs.Numerals.{read_on, is_number, number_of}
 
 own : IsNumeralModel (λ ds. all_ascii_digits ds ≡ true) (read_on 0)
 own = numerals_by_fold _ tells_all_ascii_digits read_on (search rules)
-
--- no sign stands in front of nothing
-pub nothing_plus : (bs : List ℕ) (r : Bool) → r ≡ eqb (length bs) 0 → r ≡ true → not r ≡ eqb (get_or bs 0 0) 43
-nothing_plus [] r e t = ap not t
-nothing_plus (c ∷ cs) r e t = let z = eqb-true (length (c ∷ cs)) 0 (sym e ∙ t) in absurd (omega arith)
-
-pub number_plus : (bs : List ℕ) (r : Bool) → r ≡ eqb (get_or bs 0 0) 43 → r ≡ true → None ≡ number_of bs
-number_plus [] r e t = let z = eqb-true 0 43 (sym e ∙ t) in absurd (omega arith)
-number_plus (c ∷ cs) r e t = subst (λ k. None ≡ number_of (k ∷ cs)) (sym (eqb-true c 43 (sym e ∙ t))) refl
 
 abbrev Writes : List ℕ → Type 0
 Writes bs = (all_ascii_digits bs ≡ true) × (0 < length bs) × (read_on 0 bs < 2 ^ 64)
@@ -35,5 +26,5 @@ converted_number : {E : Type 0} (bs : List ℕ) (r : Result ℕ E) → OkIff r (
 converted_number bs (Ok x) (w, is) = ap Some is ∙ sym (cond-true (is_number bs) (Some (read_on 0 bs)) None (to_test bs w))
 converted_number bs (Err e) never = cond_both (is_number bs) (Some (read_on 0 bs)) None (λ o. None ≡ o) (λ t. absurd (never (from_test bs t))) (λ f. refl)
 
-pub number_plain : {E : Type 0} (bs : List ℕ) (r : Result ℕ E) (t : Bool) → ParsesUnsigned 64 10 bs r → t ≡ eqb (get_or bs 0 0) 43 → t ≡ false → result_ok r ≡ number_of bs
-number_plain bs r t h e f = converted_number bs r (parse_plain own 64 bs r h (eqb-false (get_or bs 0 0) 43 (sym e ∙ f)))
+pub number_plain : {E : Type 0} (bs : List ℕ) (r : Result ℕ E) → ParsesUnsigned 64 10 bs r → get_or bs 0 0 ≢ 43 → result_ok r ≡ number_of bs
+number_plain bs r h plain = converted_number bs r (parse_plain own 64 bs r h plain)

@@ -1,11 +1,7 @@
 -- The rounds that a word spells. Assumes nothing.
-use Rattle.std.specs.Prelude.{ℕ, cond, List, [], ◌∷◌, Some, None, Option, ◌==◌}
+use Rattle.std.specs.Prelude.{ℕ, List, [], ◌∷◌, Some, None, Option}
+use Rattle.model.specs.Letters.{round_of}
 use Rattle.model.specs.declared.Round.{Round}
-use Rattle.model.specs.declared.Round.TheVariants.{Request, Step, Leave}
-
--- `r`, `s` and `l`
-abbrev pub round_of : ℕ → Option Round
-round_of b = cond (b == 114) (Some Request) (cond (b == 115) (Some Step) (cond (b == 108) (Some Leave) None))
 
 -- a first item before others, where both are there
 abbrev pub put_before : {A : Type 0} → Option A → Option (List A) → Option (List A)

@@ -1,24 +1,24 @@
 -- What words ask for. Assumes nothing.
-use Rattle.std.specs.Prelude.{◌≡◌, ℕ, true, cond, List, [], ◌∷◌, is_some, Some, None, Ok, Err, vec_items, Option, Result, ◌==◌}
+use Rattle.std.specs.Prelude.{◌≡◌, ℕ, true, List, [], ◌∷◌, is_some, Some, None, Ok, Err, vec_items, Option, Result}
+use Rattle.plan.specs.Published.{published}
+use Rattle.plan.specs.declared.rule.PublishedRule.{PublishedRule}
 use Rattle.standoffs.specs.Letters.{rounds_of}
 use Rattle.standoffs.specs.Numerals.{number_of}
-use Rattle.standoffs.specs.declared.request.Choice.{Choice}
-use Rattle.standoffs.specs.declared.request.Choice.TheVariants.{ReadWrite, Majority, Ladder}
 use Rattle.standoffs.specs.declared.request.Fault.{Fault}
 use Rattle.standoffs.specs.declared.request.Fault.TheVariants.{WordCount, Rule, Agents, Cells, Rounds, NoMemory}
 use Rattle.standoffs.specs.declared.request.Standoff.{Standoff}
 
 -- the rule of a number, where there is one
-abbrev pub rule_numbered : Option ℕ → Option Choice
+abbrev pub rule_numbered : Option ℕ → Option PublishedRule
 rule_numbered None = None
-rule_numbered (Some n) = cond (n == 1) (Some ReadWrite) (cond (n == 2) (Some Majority) (cond (n == 3) (Some Ladder) None))
+rule_numbered (Some n) = published n
 
-abbrev pub rule_of : List ℕ → Option Choice
+abbrev pub rule_of : List ℕ → Option PublishedRule
 rule_of word = rule_numbered (number_of word)
 
 -- four words are read, or the first faulty one is named; memory may run out
 abbrev pub Reads : List ℕ → List ℕ → List ℕ → List ℕ → Result Standoff Fault → Type 0
-Reads a b c d (Ok s) = (rule_of a ≡ Some s.rule) × (number_of b ≡ Some s.agents) × (number_of c ≡ Some s.cells) × (rounds_of d ≡ Some (vec_items s.rounds))
+Reads a b c d (Ok s) = (rule_of a ≡ Some s.rule) × (number_of b ≡ Some s.sizes.agents) × (number_of c ≡ Some s.sizes.cells) × (rounds_of d ≡ Some (vec_items s.rounds))
 Reads a b c d (Err WordCount) = ⊥
 Reads a b c d (Err Rule) = rule_of a ≡ None
 Reads a b c d (Err Agents) = (is_some (rule_of a) ≡ true) × (number_of b ≡ None)

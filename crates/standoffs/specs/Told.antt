@@ -10,8 +10,8 @@ use Rattle.model.specs.Rounds.{round_answer, after_round, rounds}
 use Rattle.model.specs.declared.Round.{Round}
 use Rattle.report.specs.Lines.{line_end}
 use Rattle.report.specs.Reports.{report_text}
-use Rattle.standoffs.specs.declared.request.Choice.{Choice}
-use Rattle.standoffs.specs.declared.request.Choice.TheVariants.{ReadWrite, Majority, Ladder}
+use Rattle.plan.specs.declared.rule.PublishedRule.{PublishedRule}
+use Rattle.plan.specs.declared.rule.PublishedRule.TheVariants.{ReadWrite, Majority, Ladder}
 
 -- `ok`, or the refusal
 abbrev pub answer_line : Check → List ℕ
@@ -35,7 +35,7 @@ module _ {P : Type 0} (R : Meaning P) where
   abbrev pub standoff_told : ℕ → ℕ → List Round → List ℕ
   standoff_told n m rs = told (blank_world P (replicate (min m 64) Empty)) n m rs
 
-abbrev pub chosen_told : Choice → ℕ → ℕ → List Round → List ℕ
+abbrev pub chosen_told : PublishedRule → ℕ → ℕ → List Round → List ℕ
 chosen_told ReadWrite n m rs = standoff_told read_and_write n m rs
 chosen_told Majority n m rs = standoff_told by_majority n m rs
 chosen_told Ladder n m rs = standoff_told by_ladder n m rs

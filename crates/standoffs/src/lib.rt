@@ -8,8 +8,8 @@ mod reading;
 mod request;
 mod telling;
 
-pub use letters::{round_of, rounds_of};
+pub use letters::rounds_of;
 pub use numerals::number_of;
 pub use reading::rule_of;
-pub use request::{Choice, Fault, Standoff};
+pub use request::{Fault, Standoff};
 pub use telling::run_standoff_report;

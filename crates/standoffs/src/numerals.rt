@@ -1,19 +1,12 @@
 // Numbers as a word has them.
-ghost use Rattle.std.specs.Prelude.{◌≡◌, ◌==◌, slice_index};
+ghost use Rattle.std.specs.Prelude.{◌≡◌};
 ghost use Rattle.standoffs.specs.Numerals.{number_of};
 
-// Whether a sign stands in front, which std would read over.
-fn has_plus(bytes: &[u8]) -> bool
-    ensures value { result ≡ (slice_index bytes.now 0 == 43) }
-{
-    !bytes.is_empty() && bytes[0] == b'+'
-}
-
-// The number that a word of decimal digits writes, where it fits.
+// The number that a word of decimal digits writes, where it fits. A sign in front, which std would read over, is no digit.
 pub fn number_of(word: &str) -> Option<usize>
     ensures value { result ≡ number_of word.now }
 {
-    if has_plus(word.as_bytes()) {
+    if word.starts_with('+') {
         return None;
     }
     word.parse::<usize>().ok()

@@ -4,19 +4,17 @@ ghost use Rattle.standoffs.specs.Requests.{rule_of, Reads, Asks};
 
 use crate::letters::rounds_of;
 use crate::numerals::number_of;
-use crate::request::{Choice, Fault, Standoff};
+use crate::request::{Fault, Standoff};
+use numbers::sizes::Sizes;
+use plan::PublishedRule;
 use std::alloc::Global;
 
 // The rule whose number a word writes.
-pub fn rule_of(word: &str) -> Option<Choice>
+pub fn rule_of(word: &str) -> Option<PublishedRule>
     ensures value { result ≡ rule_of word.now }
 {
-    match number_of(word)? {
-        1 => Some(Choice::ReadWrite),
-        2 => Some(Choice::Majority),
-        3 => Some(Choice::Ladder),
-        _ => None,
-    }
+    let number = u8::try_from(number_of(word)?).ok()?;
+    PublishedRule::try_from(number).ok()
 }
 
 impl Standoff {
@@ -33,25 +31,21 @@ impl Standoff {
         let rule = rule_of(rule).ok_or(Fault::Rule)?;
         let agents = number_of(agents).ok_or(Fault::Agents)?;
         let cells = number_of(cells).ok_or(Fault::Cells)?;
-        match rounds_of(heap, rounds) {
-            Ok(Some(rounds)) => Ok(Standoff {
-                rule,
-                agents,
-                cells,
-                rounds,
-            }),
-            Ok(None) => Err(Fault::Rounds),
-            Err(_) => Err(Fault::NoMemory),
-        }
+        let rounds = rounds_of(heap, rounds)?.ok_or(Fault::Rounds)?;
+        Ok(Standoff {
+            rule,
+            sizes: Sizes { agents, cells },
+            rounds,
+        })
     }
 
     // The stand-off that three or four words ask for; with three of them there are no rounds.
     pub fn read_words(heap: Global, words: &[String]) -> Result<Standoff, Fault>
         ensures value { Asks (map string_bytes words.now) result }
     {
-        match words.len() {
-            3 => Standoff::read(heap, &words[0], &words[1], &words[2], ""),
-            4 => Standoff::read(heap, &words[0], &words[1], &words[2], &words[3]),
+        match words {
+            [rule, agents, cells] => Standoff::read(heap, rule, agents, cells, ""),
+            [rule, agents, cells, rounds] => Standoff::read(heap, rule, agents, cells, rounds),
             _ => Err(Fault::WordCount),
         }
     }

@@ -1,46 +1,43 @@
 // What a program is asked for.
+ghost use Rattle.std.specs.Prelude.{◌≡◌};
+ghost use Rattle.standoffs.specs.declared.request.Fault.TheVariants.{NoMemory};
+
 use model::Round;
-use std::{error, fmt};
+use numbers::sizes::Sizes;
+use plan::PublishedRule;
+use std::alloc::AllocError;
+use thiserror::Error;
 
-// One of the three published rules.
-#[derive(Clone, Copy, PartialEq, Eq, Debug)]
-pub enum Choice {
-    ReadWrite,
-    Majority,
-    Ladder,
-}
-
-// A stand-off of so many agents over so many empty cells, and its rounds.
+// A stand-off of so many agents over so many empty cells under a rule, and its rounds.
 #[derive(Drop)]
 pub struct Standoff {
-    pub rule: Choice,
-    pub agents: usize,
-    pub cells: usize,
+    pub rule: PublishedRule,
+    pub sizes: Sizes,
     pub rounds: Vec<Round>,
 }
 
 // Why words ask for no stand-off.
-#[derive(Clone, Copy, PartialEq, Eq, Debug)]
+#[derive(Clone, Copy, PartialEq, Eq, Debug, Error)]
 pub enum Fault {
+    #[error("it takes three or four words: RULE N M ROUNDS")]
     WordCount,
+    #[error("RULE is 1, 2 or 3")]
     Rule,
+    #[error("N is a decimal number below 2^64")]
     Agents,
+    #[error("M is a decimal number below 2^64")]
     Cells,
+    #[error("ROUNDS is a word of the letters r, s and l")]
     Rounds,
+    #[error("out of memory")]
     NoMemory,
 }
 
-impl fmt::Display for Fault {
-    fn fmt<W: fmt::Write>(&self, f: &mut fmt::Formatter<W>) -> fmt::Result {
-        match self {
-            Fault::WordCount => f.write_str("it takes three or four words: RULE N M ROUNDS"),
-            Fault::Rule => f.write_str("RULE is 1, 2 or 3"),
-            Fault::Agents => f.write_str("N is a decimal number below 2^64"),
-            Fault::Cells => f.write_str("M is a decimal number below 2^64"),
-            Fault::Rounds => f.write_str("ROUNDS is a word of the letters r, s and l"),
-            Fault::NoMemory => f.write_str("out of memory"),
-        }
+// By hand, since a derived conversion does not say which fault it gives.
+impl From<AllocError> for Fault {
+    ghost from_gives = { λ _ fault. fault ≡ NoMemory };
+
+    fn from(_error: AllocError) -> Fault {
+        Fault::NoMemory
     }
 }
-
-impl error::Error for Fault {}

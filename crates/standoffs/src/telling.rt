@@ -7,12 +7,14 @@ ghost use Rattle.report.specs.Reports.{report_text};
 ghost use Rattle.rig.specs.Worlds.{world};
 ghost use Rattle.standoffs.specs.Told.{answer_line, round_lines, told, standoff_told, chosen_told};
 
-use crate::request::{Choice, Standoff};
+use crate::request::Standoff;
 use cells::CellStore;
 use exclusion::ExclusiveRule;
 use lockstep::{nobody_holds, same_section};
 use mark_table::MarkTable;
 use model::Round;
+use plan::PublishedRule;
+use playing::StandoffScript;
 use refusal::Refusal;
 use report::{MAX_REPORT, report};
 use rig::{Rig, Seats};
@@ -23,17 +25,13 @@ use rules::Rule;
 use std::alloc::{AllocError, Global};
 
 // Adds the line of an answer.
-fn tell_answer(
-    heap: Global,
-    answer: Result<(), Refusal>,
-    text: &mut Vec<u8>,
-) -> Result<(), AllocError>
+fn tell_answer(answer: Result<(), Refusal>, text: &mut Vec<u8>) -> Result<(), AllocError>
     ensures after { OnOk result (text.new.items ≡ text.old.items ++ answer_line answer) }
 {
     match answer {
         Ok(()) => text.extend_from_slice(b"ok\n"),
         Err(refusal) => {
-            let line = format!(in heap; "{refusal}\n")?;
+            let line = format!(in *text.allocator(); "{refusal}\n")?;
             text.extend_from_slice(line.as_bytes())
         }
     }
@@ -41,7 +39,6 @@ fn tell_answer(
 
 // Plays rounds, and adds the line of each.
 fn tell_rounds<S: CellStore, R: Rule>(
-    heap: Global,
     rig: &mut Rig<S, R>,
     given: &[Round],
     text: &mut Vec<u8>,
@@ -49,16 +46,16 @@ fn tell_rounds<S: CellStore, R: Rule>(
     ensures rig { OnOk result (world S.marks rig.new ≡ rounds (meaning_of R.Rule) (world S.marks rig.old) given.now) }
     ensures after { OnOk result (text.new.items ≡ text.old.items ++ round_lines (meaning_of R.Rule) (world S.marks rig.old) given.now) }
 {
-    for before in 0..given.len() {
-        let answer = rig.round(given[before]);
-        tell_answer(heap, answer, text)?;
+    for round in given {
+        let answer = rig.round(*round);
+        tell_answer(answer, text)?;
     }
     Ok(())
 }
 
 // Adds the report.
 fn tell_report<S: CellStore, R: Rule>(rig: &Rig<S, R>, text: &mut Vec<u8>) -> Result<(), AllocError>
-    ensures after { OnOk result (text.new.items ≡ text.old.items ++ report_text R.number (world S.marks rig.now)) }
+    ensures after { OnOk result (text.new.items ≡ text.old.items ++ report_text R.NUMBER (world S.marks rig.now)) }
 {
     let mut buffer = [0; MAX_REPORT];
     match report(rig, &mut buffer) {
@@ -69,21 +66,18 @@ fn tell_report<S: CellStore, R: Rule>(rig: &Rig<S, R>, text: &mut Vec<u8>) -> Re
 
 // Loads a stand-off, plays its rounds, and adds what is told of it.
 fn tell<S: CellStore, R: Rule>(
-    heap: Global,
     rig: &mut Rig<S, R>,
-    agents: usize,
-    cells: usize,
-    given: &[Round],
+    script: &StandoffScript<'_>,
     text: &mut Vec<u8>,
 ) -> Result<(), AllocError>
-    ensures after { OnOk result (text.new.items ≡ text.old.items ++ told (meaning_of R.Rule) (world S.marks rig.old) agents cells given.now) }
+    ensures after { OnOk result (text.new.items ≡ text.old.items ++ told (meaning_of R.Rule) (world S.marks rig.old) script.now.sizes.agents script.now.sizes.cells script.now.rounds.now) }
 {
-    match rig.load_standoff(agents, cells) {
+    match rig.load_standoff(script.sizes.agents, script.sizes.cells) {
         Ok(()) => {
-            tell_rounds(heap, rig, given, text)?;
+            tell_rounds(rig, script.rounds, text)?;
             tell_report(rig, text)
         }
-        Err(refusal) => tell_answer(heap, Err(refusal), text),
+        Err(refusal) => tell_answer(Err(refusal), text),
     }
 }
 
@@ -92,39 +86,36 @@ fn tell<S: CellStore, R: Rule>(
 pub fn run_standoff_report<R: ExclusiveRule + Drop>(
     heap: Global,
     rule: R,
-    agents: usize,
-    cells: usize,
-    given: &[Round],
+    script: &StandoffScript<'_>,
 ) -> Result<Vec<u8>, AllocError>
-    ensures value { IfOk result (λ text. text.items ≡ standoff_told (meaning_of R.Rule) agents cells given.now) }
+    ensures value { IfOk result (λ text. text.items ≡ standoff_told (meaning_of R.Rule) script.now.sizes.agents script.now.sizes.cells script.now.rounds.now) }
     ensures same_section { SameSection (meaning_of R.Rule) }
     ensures nobody_holds { NobodyHolds (meaning_of R.Rule) }
 {
     let _ = same_section::<R>();
     let _ = nobody_holds::<R>();
     let seats = Seats::new(heap)?;
-    let mut rig = Rig::new(MarkTable::new(cells), rule, seats);
+    let mut rig = Rig::new(MarkTable::new(script.sizes.cells), rule, seats);
     let mut text = Vec::new(heap);
-    let told = tell(heap, &mut rig, agents, cells, given, &mut text);
+    let told = tell(&mut rig, script, &mut text);
     let _ = rig.into_store();
-    match told {
-        Ok(()) => Ok(text),
-        Err(error) => Err(error),
-    }
+    told?;
+    Ok(text)
 }
 
 impl Standoff {
     // What the program prints.
     pub fn told(&self, heap: Global) -> Result<Vec<u8>, AllocError>
-        ensures value { IfOk result (λ text. text.items ≡ chosen_told self.now.rule self.now.agents self.now.cells self.now.rounds.items) }
+        ensures value { IfOk result (λ text. text.items ≡ chosen_told self.now.rule self.now.sizes.agents self.now.sizes.cells self.now.rounds.items) }
     {
-        let agents = self.agents;
-        let cells = self.cells;
-        let given = self.rounds.as_slice();
+        let script = StandoffScript {
+            sizes: self.sizes,
+            rounds: self.rounds.as_slice(),
+        };
         match self.rule {
-            Choice::ReadWrite => run_standoff_report(heap, ReadWrite, agents, cells, given),
-            Choice::Majority => run_standoff_report(heap, Majority, agents, cells, given),
-            Choice::Ladder => run_standoff_report(heap, Ladder, agents, cells, given),
+            PublishedRule::ReadWrite => run_standoff_report(heap, ReadWrite, &script),
+            PublishedRule::Majority => run_standoff_report(heap, Majority, &script),
+            PublishedRule::Ladder => run_standoff_report(heap, Ladder, &script),
         }
     }
 }

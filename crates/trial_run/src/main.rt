@@ -8,20 +8,17 @@ use std::env;
 use std::fs::File;
 use std::io::Read;
 use std::process::ExitCode;
-use trials::{MAX_REPORT, trial_report};
+use trials::trial_text;
 use words::{Asked, HELP, VERSION};
 
 // One byte more than the longest plan file: enough to see that a file is too long.
 const MOST: u64 = 65_536;
 
 fn show_trial(rt: &HostRuntime, source: impl Read + Drop) -> anyhow::Result<()> {
-    let mut input = Vec::new(rt.alloc());
-    source.take(MOST).read_to_end(&mut input)?;
-    let mut buffer = [0; MAX_REPORT];
-    match trial_report(rt.alloc(), input.as_slice(), &mut buffer)? {
-        Ok(length) => rt.stdout().write_all(&buffer[..length])?,
-        Err(refusal) => rt.println(refusal)?,
-    }
+    let mut file = Vec::new(rt.alloc());
+    source.take(MOST).read_to_end(&mut file)?;
+    let text = trial_text(rt.alloc(), &file)?;
+    rt.stdout().write_all(&text)?;
     Ok(())
 }
 
@@ -37,6 +34,7 @@ fn run(rt: &HostRuntime) -> anyhow::Result<()> {
     Ok(())
 }
 
+// The five lines of `standoff`, too: a function for both would need a crate of its own, and say no less.
 fn main(rt: HostRuntime) -> ExitCode {
     let Err(error) = run(&rt) else {
         return ExitCode::SUCCESS;

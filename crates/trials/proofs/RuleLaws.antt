@@ -1,9 +1,16 @@
 -- Which of three a rule's number picks. Assumes nothing.
-use Rattle.std.proofs.Common.{◌≡◌, ℕ, cond, eqb, sym, ap, ◌∙◌}
-use Rattle.std.proofs.lemmas.Bool.{ne_eqb, cond-false}
+use Rattle.std.proofs.Common.{ℕ, cond, eqb, Bool, true, false}
 use Rattle.trials.specs.Trials.{by_rule}
 
--- a number that is neither 2 nor 3 picks the first
-pub first_picked : {A : Type 0} (rule asked : ℕ) (x y z : A) → rule ≡ asked → (rule ≡ 2 → ⊥) → (rule ≡ 3 → ⊥) → x ≡ by_rule asked x y z
-first_picked rule asked x y z e not_two not_three =
-    sym (cond-false (eqb rule 2) y (cond (eqb rule 3) z x) (ne_eqb rule 2 not_two) ∙ cond-false (eqb rule 3) z x (ne_eqb rule 3 not_three)) ∙ ap (λ r. by_rule r x y z) e
+-- what a pick gives of any three
+abbrev pub Pick : Type 1
+Pick = (A : Type 0) → A → A → A → A
+
+-- what is so of the first, of the second and of the third is so of the one that is picked
+pub picked : (rule : ℕ) (Q : Pick → Type 0) → Q (λ A x y z. x) → Q (λ A x y z. y) → Q (λ A x y z. z) → Q (λ A x y z. by_rule rule x y z)
+picked rule Q first second third = by_tests (eqb rule 2) (eqb rule 3)
+  where
+    by_tests : (b c : Bool) → Q (λ A x y z. cond b y (cond c z x))
+    by_tests true c = second
+    by_tests false true = third
+    by_tests false false = first

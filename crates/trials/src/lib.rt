@@ -3,9 +3,11 @@
 #![tactic(auto)]
 
 mod run;
+mod shown;
 mod sizes;
 mod trial;
 
 pub use report::MAX_REPORT;
 pub use run::report_run;
+pub use shown::trial_text;
 pub use trial::trial_report;

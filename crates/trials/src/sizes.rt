@@ -6,9 +6,5 @@ ghost use Rattle.trials.specs.Trials.{cells_asked};
 pub fn cells_asked(file: &[u8]) -> usize
     ensures value { result ≡ cells_asked file.now }
 {
-    if file.len() > 3 {
-        usize::from(file[3])
-    } else {
-        0
-    }
+    usize::from(file.get(3).copied().unwrap_or(0))
 }

@@ -6,7 +6,7 @@ ghost use Rattle.trials.specs.Trials.{trial_answer, trial_length, trial_buffer};
 
 use crate::run::report_run;
 use exclusion::exclusive_rules;
-use plan::rule_asked;
+use plan::{PublishedRule, rule_asked};
 use refusal::Refusal;
 use rig::Seats;
 use rule_ladder::Ladder;
@@ -32,8 +32,8 @@ pub fn trial_report(
 {
     let _ = exclusive_rules();
     match rule_asked(file) {
-        2 => Ok(report_run(Majority, Seats::new(heap)?, file, buffer)),
-        3 => Ok(report_run(Ladder, Seats::new(heap)?, file, buffer)),
-        _ => Ok(report_run(ReadWrite, Seats::new(heap)?, file, buffer)),
+        PublishedRule::ReadWrite => Ok(report_run(ReadWrite, Seats::new(heap)?, file, buffer)),
+        PublishedRule::Majority => Ok(report_run(Majority, Seats::new(heap)?, file, buffer)),
+        PublishedRule::Ladder => Ok(report_run(Ladder, Seats::new(heap)?, file, buffer)),
     }
 }

@@ -8,7 +8,7 @@ ghost use Rattle.worked.specs.Worked.{verdicts, WorkedExamples};
 use refusal::Refusal;
 
 // What every file is answered whose header is good up to its number of cells: some agents over some cells. It passes the
-// checks of its header, or it is refused so.
+// checks of its header, or it is refused so. Fields and no table: the theorem has a sentence of its own for each name.
 pub struct CellCounts {
     pub three_over_five: Result<(), Refusal>,
     pub three_over_twenty_five: Result<(), Refusal>,

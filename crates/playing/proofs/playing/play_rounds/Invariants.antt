@@ -5,8 +5,8 @@ use Rattle.rig.specs.Worlds.{world}
 use Rattle.playing.proofs.playing.play_rounds.Given as goal
 
 -- what is left to play leads from here to where all of it leads from the start
-abbrev pub invariant-loop-before : goal.invariant-loop-before
-invariant-loop-before g l =
-    (rounds (meaning_of g.R.Rule) (world g.S.CellStore.marks l.rig) (drop l.before l.given)
+abbrev pub invariant-loop-round : goal.invariant-loop-round
+invariant-loop-round g l =
+    (rounds (meaning_of g.R.Rule) (world g.S.CellStore.marks l.rig) (drop l.round-index l.given)
     ≡ rounds (meaning_of g.R.Rule) (world g.S.CellStore.marks l.initial.rig) l.given)
     × (g.S.CellStore.lender l.rig.store ≡ g.S.CellStore.lender l.initial.rig.store)

@@ -1,20 +1,14 @@
-use Rattle.std.proofs.Common.{◌≤◌, length, ap, ◌∙◌, subst, arith}
+use Rattle.std.proofs.Common.{ap, ◌∙◌, arith}
 use Rattle.rig.specs.Worlds.{world}
-use Rattle.report.specs.Reports.{report_text, copy_answer, copy_after}
-use Rattle.report.proofs.CopyLaws.{sheet_small, copy_goes}
+use Rattle.report.specs.Reports.{report_text, copy_answer}
+use Rattle.report.proofs.CopyLaws.{copy_goes}
 use Rattle.report.proofs.WholeLaws.{whole}
 use Rattle.report.proofs.reporting.report.Goals as goal
 
-pub returns : goal.returns
-returns g c =
-    let text = report_text g.R.Rule.number (world g.S.CellStore.marks c.args.rig.now) in
-    let buffer = c.args.buffer.now in
-    let value = c.copy_to.ensures.value ∙ ap (λ t. copy_answer t buffer) c.sheet_of.ensures.value in
-    let fits : length text ≤ 2336 = subst (λ t. length t ≤ 2336) c.sheet_of.ensures.value (sheet_small c.sheet_of.result) in
-    record {
-      value = value;
-      after = c.copy_to.ensures.after ∙ ap (λ t. copy_after t buffer) c.sheet_of.ensures.value;
-      enough = λ long. value ∙ copy_goes text buffer (omega arith);
-      whole = whole (world g.S.CellStore.marks c.args.rig.now);
-      fits = fits;
-    }
+pub returns-clause-enough : goal.returns-clause-enough
+returns-clause-enough g c = λ long.
+    let text = report_text g.R.Rule.NUMBER (world g.S.CellStore.marks c.args.rig.now) in
+    c.copy_to.ensures.value ∙ ap (λ t. copy_answer t c.args.buffer.now) c.sheet_of.ensures.value ∙ copy_goes text c.args.buffer.now (omega (arith, long, c.sheet_of.ensures.fits))
+
+pub returns-clause-whole : goal.returns-clause-whole
+returns-clause-whole g c = whole (world g.S.CellStore.marks c.args.rig.now)

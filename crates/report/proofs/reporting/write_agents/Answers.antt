@@ -1,17 +1,15 @@
-use Rattle.std.proofs.Common.{ℕ, List, arith}
-use Rattle.model.specs.Rigs.{section_answer, figures_answer}
-use Rattle.rig.specs.Worlds.{rig_of}
-use Rattle.report.specs.Reports.{agent_told}
-use Rattle.report.specs.Sheets.{written}
-use Rattle.report.proofs.LineLaws.{lines_none, line_put}
+use Rattle.std.proofs.Common.{arith}
+use Rattle.report.proofs.LineLaws.{lines_none, lines_put, lines_all}
 use Rattle.report.proofs.reporting.write_agents.Goals as goal
 
-pub loop-before-init : goal.loop-before-init
-loop-before-init g c = (lines_none _ (written c.args.sheet.now), omega arith)
+pub loop-k-init : goal.loop-k-init
+loop-k-init g c = (omega arith, omega arith, lines_none _ c.args.sheet.now)
 
-pub loop-before-preserved : goal.loop-before-preserved
-loop-before-preserved g c =
-    let told : ℕ → List ℕ = λ k. agent_told k (section_answer (rig_of c.args.rig.now) k) (figures_answer (rig_of c.args.rig.now) k) in (
-      line_put told c.loop-before.before (written c.args.sheet.now) c.loop-before.invariant.0 c.write_agent.ensures.after,
-      omega (arith, c.loop-before.invariant.1, c.write_agent.ensures.used),
-    )
+pub loop-k-preserved : goal.loop-k-preserved
+loop-k-preserved g c = (omega arith, omega arith, lines_put _ c.loop-k.k _ c.loop-k.invariant.0 (omega arith) c.loop-k.invariant.2 c.write_agent.ensures.after)
+
+pub returns : goal.returns
+returns g c = record { after = lines_all _ c.loop-k.k _ (omega arith) c.loop-k.invariant.2 }
+
+pub returns-2 : goal.returns-2
+returns-2 g c = record { after = lines_put _ c.loop-k.k _ c.loop-k.invariant.0 (omega arith) c.loop-k.invariant.2 c.write_agent.ensures.after }

@@ -1,10 +1,10 @@
-use Rattle.std.proofs.Common.{eqb, get_or, ap, ◌∙◌}
-use Rattle.standoffs.proofs.NumberLaws.{number_plus, number_plain}
+use Rattle.std.proofs.Common.{◌∙◌, arith}
+use Rattle.std.proofs.lemmas.Bool.Decides.{not_from_Decides}
+use Rattle.std.proofs.lemmas.Str.Pattern.{starts_char}
+use Rattle.standoffs.proofs.NumberLaws.{number_plain}
 use Rattle.standoffs.proofs.numerals.number_of.Goals as goal
-
-pub returns-then-has_plus : goal.returns-then-has_plus
-returns-then-has_plus c = record { value = number_plus c.args.word.now c.has_plus.result (c.has_plus.ensures.value ∙ ap (λ bs. eqb (get_or bs 0 0) 43) c.as_bytes.ensures.value) c.if-has_plus.true }
 
 pub returns : goal.returns
 returns c =
-    record { value = c.ok.ensures.value ∙ number_plain c.args.word.now c.parse.result c.has_plus.result c.parse.ensures.value.0 (c.has_plus.ensures.value ∙ ap (λ bs. eqb (get_or bs 0 0) 43) c.as_bytes.ensures.value) c.if-has_plus.false }
+    let plain = not_from_Decides c.starts_with.result (starts_char 43 c.args.word.now c.starts_with.result c.starts_with.ensures.cases (omega arith) (omega arith)) c.if-starts_with.false in
+    record { value = c.ok.ensures.value ∙ number_plain c.args.word.now c.parse.result c.parse.ensures.value.0 plain }

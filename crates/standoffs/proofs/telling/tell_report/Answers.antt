@@ -9,5 +9,5 @@ pub returns : goal.returns
 returns g c =
     record {
       after = extended c.extend_from_slice.result _ _ _ _ c.extend_from_slice.ensures.items
-          (report_front (report_text g.R.Rule.number (world g.S.CellStore.marks c.args.rig.now)) (replicate 2336 0) c.report.new.buffer c.in-Ok.length c.report.result (omega (arith, c.report.ensures.fits, length-replicate {A = ℕ} 2336 0)) c.in-Ok.is c.report.ensures.value c.report.ensures.after);
+          (report_front (report_text g.R.Rule.NUMBER (world g.S.CellStore.marks c.args.rig.now)) (replicate 2336 0) c.report.new.buffer c.in-Ok.length c.report.result (omega (arith, c.report.ensures.fits, length-replicate {A = ℕ} 2336 0)) c.in-Ok.is c.report.ensures.value c.report.ensures.after);
     }

@@ -1,21 +1,10 @@
-use Rattle.std.proofs.Common.{◌++◌, codes, decimal, sym, ap, ◌∙◌, rules}
+use Rattle.std.proofs.Common.{◌≤◌, length, sym, subst, arith}
 use Rattle.cells.specs.Marks.{mark_words}
-use Rattle.report.specs.Sheets.{written}
-use Rattle.report.proofs.TextLaws.{row2}
+use Rattle.report.proofs.LengthLaws.{owner_short, rung_short}
 use Rattle.report.proofs.sheet.Sheet.mark.Goals as goal
 
-pub returns-in-Owner : goal.returns-in-Owner
-returns-in-Owner c = record {
-  after =
-      row2 (written c.args.self.now) (codes "owner ") (decimal c.in-Owner.identity) c.text-in-Owner.ensures.after c.identity.ensures.after
-      ∙ ap (λ k. written c.args.self.now ++ mark_words k) (sym c.in-Owner.is);
-  used = search rules;
-}
+pub returns-in-Owner-clause-short : goal.returns-in-Owner-clause-short
+returns-in-Owner-clause-short c = subst (λ k. length (mark_words k) ≤ 11) (sym c.in-Owner.is) (owner_short c.in-Owner.identity (omega arith))
 
-pub returns-in-Rung : goal.returns-in-Rung
-returns-in-Rung c = record {
-  after =
-      row2 (written c.args.self.now) (codes "rung ") (decimal c.in-Rung.rung) c.text-in-Rung.ensures.after c.small.ensures.after
-      ∙ ap (λ k. written c.args.self.now ++ mark_words k) (sym c.in-Rung.is);
-  used = search rules;
-}
+pub returns-in-Rung-clause-short : goal.returns-in-Rung-clause-short
+returns-in-Rung-clause-short c = subst (λ k. length (mark_words k) ≤ 11) (sym c.in-Rung.is) (rung_short c.in-Rung.rung (omega arith))
