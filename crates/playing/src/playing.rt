@@ -6,33 +6,23 @@ ghost use Rattle.model.specs.Rigs.{run};
 ghost use Rattle.model.specs.Rounds.{rounds};
 ghost use Rattle.model.specs.Loads.{load_answer, standoff_answer};
 ghost use Rattle.rig.specs.Worlds.{world};
-ghost use Rattle.playing.specs.Runs.{after_some, events_of, after_run, after_rounds};
+ghost use Rattle.playing.specs.Runs.{events_of, after_run, after_rounds};
 
 use cells::CellStore;
 use model::Round;
 use numbers::sizes::Sizes;
-use plan::{Event, Plan};
+use plan::Plan;
 use refusal::Refusal;
 use rig::Rig;
 use rules::Rule;
-
-// Plays an event, if there is one.
-fn play_event<S: CellStore, R: Rule>(rig: &mut Rig<S, R>, event: Option<Event>)
-    ensures after { world S.marks rig.new ≡ after_some (meaning_of R.Rule) (world S.marks rig.old) event }
-    ensures same { S.lender rig.new.store ≡ S.lender rig.old.store }
-{
-    if let Some(event) = event {
-        let _ = rig.call(event);
-    }
-}
 
 // Plays all events of a plan.
 pub fn play_plan<S: CellStore, R: Rule>(rig: &mut Rig<S, R>, plan: &Plan<'_>)
     ensures after { world S.marks rig.new ≡ run (meaning_of R.Rule) (world S.marks rig.old) (model plan.now).events }
     ensures same { S.lender rig.new.store ≡ S.lender rig.old.store }
 {
-    for index in 1..=plan.event_count() {
-        play_event(rig, plan.event(index));
+    for event in plan.events() {
+        let _ = rig.call(event);
     }
 }
 
