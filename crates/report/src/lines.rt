@@ -42,7 +42,7 @@ impl Sheet {
         self.text("\n");
     }
 
-    // `empty`, `owner 41` or `rung 2`. No `write!` by Mark's Display: it may fail, and a sheet takes each mark.
+    // By hand and no `write!`, whose text is promised only where it answers Ok: nothing promises that it does.
     fn mark(&mut self, mark: Mark)
         ensures after { Puts self.old (mark_words mark) self.new }
         ensures short { length (mark_words mark) ≤ 11 }

@@ -11,7 +11,7 @@ use std::process::ExitCode;
 use trials::trial_text;
 use words::{Asked, HELP, VERSION};
 
-// One byte more than the longest plan file: enough to see that a file is too long.
+// One byte more than the longest plan file: enough to see that a file is too long. `trial` reads as much.
 const MOST: u64 = 65_536;
 
 fn show_trial(rt: &HostRuntime, source: impl Read + Drop) -> anyhow::Result<()> {
