@@ -53,7 +53,7 @@ fn tell_rounds<S: CellStore, R: Rule>(
     Ok(())
 }
 
-// Adds the report.
+// Adds the report, through a buffer, since the report itself takes no memory of its own.
 fn tell_report<S: CellStore, R: Rule>(rig: &Rig<S, R>, text: &mut Vec<u8>) -> Result<(), AllocError>
     ensures after { OnOk result (text.new.items ≡ text.old.items ++ report_text R.NUMBER (world S.marks rig.now)) }
 {
