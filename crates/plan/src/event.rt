@@ -11,7 +11,8 @@ pub enum Event {
     Leave(usize),
 }
 
-// What is asked, without the agent.
+// What is asked, without the agent. Not `model`'s rounds: a file has a number for a kind, a word has a letter for a round,
+// and one type has one conversion from a byte.
 #[derive(Clone, Copy)]
 pub enum Kind {
     Request,

@@ -6,6 +6,9 @@ use numbers::factors::smallest_common_factor;
 use numbers::sizes::Sizes;
 use refusal::{Part, Refusal};
 
+// No plan file is longer, in bytes.
+pub const MAX_FILE: usize = 65_535;
+
 // The header's fields. Offsets count from the file's first byte.
 #[derive(Clone, Copy)]
 pub struct Header {
@@ -48,7 +51,7 @@ impl Header {
         else {
             return Err(Refusal::FileLength);
         };
-        if rest.len() > 65_535 - 12 {
+        if rest.len() > MAX_FILE - 12 {
             return Err(Refusal::FileLength);
         }
         Ok(Header {

@@ -15,5 +15,6 @@ mod rule;
 
 pub use event::Event;
 pub use events::Events;
+pub use header::MAX_FILE;
 pub use plan::Plan;
 pub use rule::{PublishedRule, UnknownRule, rule_asked};

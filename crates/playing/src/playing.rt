@@ -77,7 +77,7 @@ pub fn run_standoff<S: CellStore, R: Rule>(
     ensures after { world S.marks rig.new ≡ after_rounds (meaning_of R.Rule) (world S.marks rig.old) script.now.sizes.agents script.now.sizes.cells script.now.rounds.now }
     ensures same { S.lender rig.new.store ≡ S.lender rig.old.store }
 {
-    rig.load_standoff(script.sizes.agents, script.sizes.cells)?;
+    rig.load_standoff(script.sizes)?;
     play_rounds(rig, script.rounds);
     Ok(())
 }

@@ -1,3 +1,2 @@
 pub mod AnswerLaws
-pub mod SearchLaws
 pub mod TwinLaws

@@ -1,6 +1,6 @@
 -- Names of a list's elements, and what chains over the list and over its names find and count. Assumes nothing.
-use Rattle.std.proofs.Common.{◌≡◌, ℕ, zero, suc, ◌+◌, Bool, true, false, cond, ◌||◌, List, [], ◌∷◌, map, length, is_some, Some, Option, refl, sym, ap, ◌∙◌, add-one, add-zero, zero-add, add_assoc, arith}
-use Rattle.std.specs.List.{position, position_from, count_by, list_any, range_with_len, slice_get}
+use Rattle.std.proofs.Common.{◌≡◌, ℕ, zero, suc, ◌+◌, Bool, true, false, cond, List, [], ◌∷◌, map, length, is_some, Some, Option, refl, sym, ap, ◌∙◌, add-one, add-zero, zero-add, add_assoc, arith}
+use Rattle.std.specs.List.{position, position_from, count_by, slice_get}
 use Rattle.std.specs.Option.{option_map}
 use Rattle.std.proofs.lemmas.Iterator.Adapters.{position_from-zero}
 use Rattle.std.proofs.lemmas.List.Sums.{sum_by-cons}
@@ -8,14 +8,6 @@ use Rattle.std.proofs.lemmas.Option.{slice_get-map}
 use Rattle.numbers.specs.First.{first_of}
 use Rattle.numbers.specs.Names.{named}
 use Rattle.tally.specs.Counts.{count_names}
-
--- whether a name passes
-pub any_first : (test : ℕ → Bool) (start count : ℕ) → list_any test (range_with_len start count) ≡ is_some (first_of test start count)
-unfolding first_of
-any_first test start zero = refl
-any_first test start (suc count) =
-    let later = any_first test (start + 1) count in
-    elim (test start) as (λ b. (b || list_any test (range_with_len (start + 1) count)) ≡ is_some (cond b (Some start) (first_of test (start + 1) count))) [ true ↦ refl | false ↦ later ]
 
 module _ {A : Type 0} (p : A → Bool) (test : ℕ → Bool) where
   -- an element's name passes where the element does; the first name is a + 1

@@ -22,13 +22,6 @@ pub refusing : (c : Check) → model.after_check c false true ≡ is_err c
 refusing (Ok u) = refl
 refusing (Err e) = refl
 
-module _ {P : Type 0} (r : Round) (g : model.Rig P) (l : ℕ) where
-  pub one_may_not : (k : ℕ) → 1 ≤ k → k ≤ l → may_not r g k ≡ true → NonePasses (may_not r g) 1 k → all_may r g l ≡ Err (refusal_of r)
-  one_may_not k a b here before = ap (λ o. refuse_if (is_some o) (refusal_of r)) (first_up_to (may_not r g) l k a b here before)
-
-  pub every_may : ((k : ℕ) → 1 ≤ k → k ≤ l → may_not r g k ≡ false) → all_may r g l ≡ Ok tt
-  every_may h = ap (λ o. refuse_if (is_some o) (refusal_of r)) (none_up_to (may_not r g) l h)
-
 module _ {P : Type 0} where
   -- a call is heard once at most
   at_most_once : (o : Option (model.Seat P)) (f : model.Seat P → model.World P) (w : model.World P) → ((s : model.Seat P) → (f s).rig.heard ≤ w.rig.heard + 1) → (model.at_seat o f w).rig.heard ≤ w.rig.heard + 1

@@ -25,6 +25,7 @@ fn table_of(plan: &Plan<'_>, agent: usize) -> [u8; 64]
     requires last { agent ≤ (model plan.now).agents }
     ensures value { take (model plan.now).cells result ≡ slice_index_or (model plan.now).tables (agent - 1) [] }
 {
+    // Behind the plan's cells, where there is no entry, the room is filled with 0.
     array::from_fn(|before| plan.table_entry(agent, before + 1).unwrap_or(0))
 }
 

@@ -41,11 +41,8 @@ impl<S: CellStore, R: Rule> Rig<S, R> {
     fn check_all(&self, round: Round, together: usize) -> Result<(), Refusal>
         ensures value { result ≡ all_may round (rig_of self.now) together }
     {
-        // A loop: what `any` tells over a range of names was not proved.
-        for agent in 1..=together {
-            if self.may_not(round, agent) {
-                return Err(round.refusal());
-            }
+        if (1..=together).any(|agent| self.may_not(round, agent)) {
+            return Err(round.refusal());
         }
         Ok(())
     }

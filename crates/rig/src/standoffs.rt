@@ -77,21 +77,22 @@ fn seat_standoff<R: Rule>(seats: &mut Seats<R::Phase>, turning: &Turning, agents
 
 impl<S: CellStore, R: Rule> Rig<S, R> {
     // Loads a blank rig as a stand-off, over a store whose cells are all empty.
-    pub fn load_standoff(&mut self, agents: usize, cells: usize) -> Result<(), Refusal>
-        ensures value { result ≡ standoff_answer (meaning_of R.Rule) (world S.marks self.old) agents cells }
-        ensures after { world S.marks self.new ≡ after_standoff (meaning_of R.Rule) (world S.marks self.old) agents cells }
+    pub fn load_standoff(&mut self, sizes: Sizes) -> Result<(), Refusal>
+        ensures value { result ≡ standoff_answer (meaning_of R.Rule) (world S.marks self.old) sizes.agents sizes.cells }
+        ensures after { world S.marks self.new ≡ after_standoff (meaning_of R.Rule) (world S.marks self.old) sizes.agents sizes.cells }
         ensures same { S.lender self.new.store ≡ S.lender self.old.store }
     {
         if !self.is_blank() {
             return Err(Refusal::NotBlank);
         }
+        let Sizes { agents, cells } = sizes;
         if !is_within(2, 16, agents) {
             return Err(Refusal::StandoffAgents);
         }
         if !is_within(2, 64, cells) {
             return Err(Refusal::StandoffCells);
         }
-        let Some(together) = smallest_common_factor(Sizes { agents, cells }) else {
+        let Some(together) = smallest_common_factor(sizes) else {
             return Err(Refusal::NoCommonFactor);
         };
         check_empty(&self.store, cells)?;

@@ -2,6 +2,7 @@
 use crate::rigs::{Plain, TWO_OVER_THREE};
 use cells::Mark;
 use model::Round;
+use numbers::sizes::Sizes;
 use plan::Event;
 use refusal::Refusal;
 use rules::{Rule, Section};
@@ -66,7 +67,7 @@ fn answer(rig: &mut Plain, call: Call) -> Verdict {
     match call {
         Call::Plan => verdict(rig.load(&TWO_OVER_THREE)),
         Call::ShortPlan => verdict(rig.load(&TWO_OVER_THREE[..11])),
-        Call::Standoff(agents, cells) => verdict(rig.load_standoff(agents, cells)),
+        Call::Standoff(agents, cells) => verdict(rig.load_standoff(Sizes { agents, cells })),
         Call::Event(event) => verdict(rig.call(event)),
         Call::Request(agent) => verdict(rig.request(agent)),
         Call::Step(agent) => verdict(rig.step(agent)),

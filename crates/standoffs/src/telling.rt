@@ -72,7 +72,7 @@ fn tell<S: CellStore, R: Rule>(
 ) -> Result<(), AllocError>
     ensures after { OnOk result (text.new.items ≡ text.old.items ++ told (meaning_of R.Rule) (world S.marks rig.old) script.now.sizes.agents script.now.sizes.cells script.now.rounds.now) }
 {
-    match rig.load_standoff(script.sizes.agents, script.sizes.cells) {
+    match rig.load_standoff(script.sizes) {
         Ok(()) => {
             tell_rounds(rig, script.rounds, text)?;
             tell_report(rig, text)

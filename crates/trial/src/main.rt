@@ -4,17 +4,15 @@
 
 mod record;
 
-use plan::{Plan, rule_asked};
+use plan::{MAX_FILE, Plan, rule_asked};
 use record::Record;
 use std::io;
 use std::io::Read;
 
-// One byte more than the longest plan file: enough to see that a file is too long.
-const MOST: u64 = 65_536;
-
 fn main(rt: HostRuntime) -> io::Result<()> {
     let mut input = Vec::new(rt.alloc());
-    rt.stdin().take(MOST).read_to_end(&mut input)?;
+    // One byte more than the longest plan file is enough to see that a file is too long.
+    rt.stdin().take(MAX_FILE as u64 + 1).read_to_end(&mut input)?;
     let file = input.as_slice();
     match Plan::decode(file, u8::from(rule_asked(file))) {
         Ok(plan) => rt.println(Record { plan }),

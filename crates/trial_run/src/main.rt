@@ -4,6 +4,7 @@
 
 mod words;
 
+use plan::MAX_FILE;
 use std::env;
 use std::fs::File;
 use std::io::Read;
@@ -11,12 +12,10 @@ use std::process::ExitCode;
 use trials::trial_text;
 use words::{Asked, HELP, VERSION};
 
-// One byte more than the longest plan file: enough to see that a file is too long. `trial` reads as much.
-const MOST: u64 = 65_536;
-
 fn show_trial(rt: &HostRuntime, source: impl Read + Drop) -> anyhow::Result<()> {
     let mut file = Vec::new(rt.alloc());
-    source.take(MOST).read_to_end(&mut file)?;
+    // One byte more than the longest plan file is enough to see that a file is too long.
+    source.take(MAX_FILE as u64 + 1).read_to_end(&mut file)?;
     let text = trial_text(rt.alloc(), &file)?;
     rt.stdout().write_all(&text)?;
     Ok(())

@@ -3,7 +3,7 @@ use Rattle.model.specs.Rigs.{section_answer}
 use Rattle.rig.specs.Worlds.{rig_of}
 use Rattle.rehearsals.specs.Answers.{same_section, both_tell}
 use Rattle.rehearsals.proofs.AnswerLaws.{together_tells}
-use Rattle.rehearsals.proofs.SearchLaws.{all_inclusive}
+use Rattle.numbers.proofs.SearchLaws.{all_inclusive}
 use Rattle.rehearsals.proofs.agents.are_together.Goals as goal
 
 pub returns : goal.returns

@@ -1,7 +1,7 @@
 use Rattle.std.proofs.Common.{rules, tests, ◌∙◌}
 use Rattle.plan.specs.Plans.{model}
 use Rattle.rehearsals.specs.Twins.{has_both}
-use Rattle.rehearsals.proofs.SearchLaws.{any_inclusive}
+use Rattle.numbers.proofs.SearchLaws.{any_inclusive}
 use Rattle.rehearsals.proofs.twins.Twins.are_of_one_agent.Goals as goal
 
 pub returns : goal.returns

@@ -1,19 +1,19 @@
-use Rattle.std.proofs.Common.{Err, sym, ap, ◌∙◌, arith}
-use Rattle.numbers.proofs.FirstLaws.{none_push}
-use Rattle.model.specs.Rounds.{may_not}
+use Rattle.std.proofs.Common.{◌≡◌, Err, is_some, rules, tests, sym, ap, ◌∙◌}
+use Rattle.numbers.specs.First.{first_of}
+use Rattle.numbers.proofs.SearchLaws.{any_inclusive}
+use Rattle.refusal.specs.Checks.{refuse_if}
+use Rattle.model.specs.Rounds.{refusal_of, may_not}
 use Rattle.rig.specs.Worlds.{rig_of}
-use Rattle.rig.proofs.RoundLaws.{one_may_not, every_may}
 use Rattle.rig.proofs.rig.Rig.check_all.Goals as goal
 
-pub returns-then-may_not : goal.returns-then-may_not
-returns-then-may_not g c = record {
-  value = ap Err c.refusal.ensures.value ∙ sym (one_may_not c.args.round (rig_of c.args.self.now) c.args.together c.loop-agent.agent (omega arith) (omega arith) (sym c.may_not.ensures.value ∙ c.if-may_not.true) c.loop-agent.invariant);
-}
+pub returns-then-any : goal.returns-then-any
+returns-then-any g c =
+    let test = may_not c.args.round (rig_of c.args.self.now) in
+    let found = any_inclusive test c.new.result _ _ c.any.result c.args.together c.any.ensures.ran c.new.ensures.start c.new.ensures.end c.new.ensures.exhausted (λ x y q k. search (rules, tests)) in
+    record { value = ap Err c.refusal.ensures.value ∙ ap (λ b. refuse_if b (refusal_of c.args.round)) (sym c.if-any.true ∙ found) }
 
 pub returns : goal.returns
-returns g c = record { value = sym (every_may c.args.round (rig_of c.args.self.now) c.args.together (λ k a b. c.loop-agent.invariant k a (omega arith))) }
-
-pub returns-else-may_not : goal.returns-else-may_not
-returns-else-may_not g c =
-    let none = none_push (may_not c.args.round (rig_of c.args.self.now)) 1 c.loop-agent.agent (sym c.may_not.ensures.value ∙ c.if-may_not.false) c.loop-agent.invariant in
-    record { value = sym (every_may c.args.round (rig_of c.args.self.now) c.args.together (λ k a b. none k a (omega arith))) }
+returns g c =
+    let test = may_not c.args.round (rig_of c.args.self.now) in
+    let found = any_inclusive test c.new.result _ _ c.any.result c.args.together c.any.ensures.ran c.new.ensures.start c.new.ensures.end c.new.ensures.exhausted (λ x y q k. search (rules, tests)) in
+    record { value = ap (λ b. refuse_if b (refusal_of c.args.round)) (sym c.if-any.false ∙ found) }
