@@ -1,11 +1,11 @@
 -- Runs: loads, and then what is heard. Assumes nothing.
-use Rattle.std.specs.Prelude.{ℕ, List, [], Some, None, Ok, Err, Option, Result}
+use Rattle.std.specs.Prelude.{ℕ, List, [], Ok, Err, Result}
 use Rattle.refusal.specs.declared.Refusal.{Refusal}
 use Rattle.plan.specs.Checks.{decoded}
 use Rattle.plan.specs.Plans.{Sayings}
 use Rattle.plan.specs.declared.event.Event.{Event}
 use Rattle.model.specs.Meanings.{Meaning}
-use Rattle.model.specs.Rigs.{World, after_check, after, run}
+use Rattle.model.specs.Rigs.{World, after_check, run}
 use Rattle.model.specs.Loads.{load_answer, after_load, standoff_answer, after_standoff}
 use Rattle.model.specs.Rounds.{rounds}
 use Rattle.model.specs.declared.Round.{Round}
@@ -16,11 +16,6 @@ events_in (Ok p) = p.events
 events_in (Err e) = []
 
 module _ {P : Type 0} (R : Meaning P) where
-  -- an event, if there is one
-  abbrev pub after_some : World P → Option Event → World P
-  after_some w None = w
-  after_some w (Some e) = after R w e
-
   abbrev pub events_of : List ℕ → List Event
   events_of file = events_in (decoded R.number file)
 

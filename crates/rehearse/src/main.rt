@@ -32,8 +32,9 @@ use twins::TwinRigs;
 // The names moved on by one: the last stands for the first below.
 fn moved_on<S: CellStore + Drop>(heap: Global, store: S) -> anyhow::Result<Renumbered<S>> {
     let row: Vec<usize> = (2..=store.count()).chain(iter::once(1)).collect(heap)?;
-    Renumbered::with_row(store, row.as_slice())
-        .map_err(|_| anyhow!("the names moved on were refused"))
+    Renumbered::with_row(store, row.as_slice()).map_err(|_| anyhow!(
+        "the names moved on were refused"
+    ))
 }
 
 // The word for what a load answered.
