@@ -4,23 +4,23 @@ use plan::{Event, Plan};
 use refusal::Layer;
 use std::alloc::Global;
 use std::test::Fail;
-use test_checks::check_eq;
+use test_checks::{check_eq, verdict};
 
 // Accepted, or the number and the places of the refusal.
 type Verdict = Result<(), (u8, usize, usize)>;
 
 // The decoder gives this verdict, and a refusal comes from the layer that its number belongs to.
 fn gives(file: &[u8], rule: u8, expected: Verdict) -> Result<(), Fail> {
-    match Plan::decode(file, rule) {
-        Ok(_) => check_eq(Ok(()), expected),
-        Err(refusal) => {
-            let number = refusal.number();
-            let (first, second) = refusal.places();
-            check_eq(Err((number, first, second)), expected)?;
-            let layer = if number < 7 { Layer::File } else { Layer::Plan };
-            check_eq(refusal.layer(), layer)
-        }
+    let answer = Plan::decode(file, rule).map(|_| ());
+    if let Err(refusal) = answer {
+        let layer = if refusal.number() < 7 {
+            Layer::File
+        } else {
+            Layer::Plan
+        };
+        check_eq(refusal.layer(), layer)?;
     }
+    check_eq(verdict(answer), expected)
 }
 
 // Each edit of a file gives its verdict.
