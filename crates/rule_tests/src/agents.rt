@@ -53,11 +53,14 @@ pub fn stands<P: PartialEq + Debug + Copy>(
 }
 
 // An agent in a section, at a phase and a name, gets an answer, among three cells, and goes to others.
-pub fn steps<P: PartialEq + Debug + Copy, R: Rule<Phase = P>>(
-    from: (Section, P, usize),
+pub fn steps<R: Rule>(
+    from: (Section, R::Phase, usize),
     answer: Answer<'_>,
-    to: (Section, P, usize),
-) -> Result<(), Fail> {
+    to: (Section, R::Phase, usize),
+) -> Result<(), Fail>
+where
+    R::Phase: PartialEq + Debug,
+{
     let (section, phase, name) = from;
     let mut agent = at(section, phase, name);
     R::step(SIZES, &mut agent, answer);

@@ -22,22 +22,22 @@ fn scans(
 #[test]
 fn takes_and_scans() -> Result<(), Fail> {
     let asking = Section::Asking;
-    steps::<Phase, Majority>(
+    steps::<Majority>(
         (asking, Phase::Take, 1),
         Answer::Went(true),
         (asking, Phase::Take, 2),
     )?;
-    steps::<Phase, Majority>(
+    steps::<Majority>(
         (asking, Phase::Take, 1),
         Answer::Went(false),
         (asking, Phase::Take, 2),
     )?;
-    steps::<Phase, Majority>(
+    steps::<Majority>(
         (asking, Phase::Take, 3),
         Answer::Went(false),
         (asking, Phase::Scan, 1),
     )?;
-    steps::<Phase, Majority>(
+    steps::<Majority>(
         (asking, Phase::Scan, 1),
         Answer::Cell(OTHER),
         (asking, Phase::Scan, 2),
@@ -47,17 +47,17 @@ fn takes_and_scans() -> Result<(), Fail> {
 #[test]
 fn waits() -> Result<(), Fail> {
     let asking = Section::Asking;
-    steps::<Phase, Majority>(
+    steps::<Majority>(
         (asking, Phase::Wait, 1),
         Answer::Cell(OTHER),
         (asking, Phase::Wait, 2),
     )?;
-    steps::<Phase, Majority>(
+    steps::<Majority>(
         (asking, Phase::Wait, 3),
         Answer::Cell(NONE),
         (asking, Phase::Take, 1),
     )?;
-    steps::<Phase, Majority>(
+    steps::<Majority>(
         (asking, Phase::Wait, 3),
         Answer::Cell(OTHER),
         (asking, Phase::Wait, 1),

@@ -51,22 +51,22 @@ fn looks_at_full_cells() -> Result<(), Fail> {
 #[test]
 fn puts_and_clears() -> Result<(), Fail> {
     let asking = Section::Asking;
-    steps::<Phase, ReadWrite>(
+    steps::<ReadWrite>(
         (asking, Phase::Put, 1),
         Answer::Done,
         (asking, Phase::Look, 1),
     )?;
-    steps::<Phase, ReadWrite>(
+    steps::<ReadWrite>(
         (asking, Phase::Put, 3),
         Answer::Done,
         (asking, Phase::Look, 1),
     )?;
-    steps::<Phase, ReadWrite>(
+    steps::<ReadWrite>(
         (asking, Phase::Clear, 1),
         Answer::Done,
         (asking, Phase::Read, 2),
     )?;
-    steps::<Phase, ReadWrite>(
+    steps::<ReadWrite>(
         (asking, Phase::Clear, 3),
         Answer::Done,
         (asking, Phase::Look, 1),
@@ -76,22 +76,22 @@ fn puts_and_clears() -> Result<(), Fail> {
 #[test]
 fn reads() -> Result<(), Fail> {
     let asking = Section::Asking;
-    steps::<Phase, ReadWrite>(
+    steps::<ReadWrite>(
         (asking, Phase::Read, 1),
         Answer::Cell(OWN),
         (asking, Phase::Clear, 1),
     )?;
-    steps::<Phase, ReadWrite>(
+    steps::<ReadWrite>(
         (asking, Phase::Read, 1),
         Answer::Cell(OTHER),
         (asking, Phase::Read, 2),
     )?;
-    steps::<Phase, ReadWrite>(
+    steps::<ReadWrite>(
         (asking, Phase::Read, 3),
         Answer::Cell(OWN),
         (asking, Phase::Clear, 3),
     )?;
-    steps::<Phase, ReadWrite>(
+    steps::<ReadWrite>(
         (asking, Phase::Read, 3),
         Answer::Cell(NONE),
         (asking, Phase::Look, 1),
@@ -102,18 +102,18 @@ fn reads() -> Result<(), Fail> {
 fn leaves() -> Result<(), Fail> {
     let leaving = Section::Leaving;
     let idle = (Section::Idle, Phase::Look, 1);
-    steps::<Phase, ReadWrite>(
+    steps::<ReadWrite>(
         (leaving, Phase::Read, 2),
         Answer::Cell(NONE),
         (leaving, Phase::Read, 3),
     )?;
-    steps::<Phase, ReadWrite>((leaving, Phase::Read, 3), Answer::Cell(OTHER), idle)?;
-    steps::<Phase, ReadWrite>(
+    steps::<ReadWrite>((leaving, Phase::Read, 3), Answer::Cell(OTHER), idle)?;
+    steps::<ReadWrite>(
         (leaving, Phase::Clear, 2),
         Answer::Done,
         (leaving, Phase::Read, 3),
     )?;
-    steps::<Phase, ReadWrite>((leaving, Phase::Clear, 3), Answer::Done, idle)?;
+    steps::<ReadWrite>((leaving, Phase::Clear, 3), Answer::Done, idle)?;
     let mut agent = at(Section::Holding, Phase::Look, 1);
     ReadWrite::leave(over(1), &mut agent);
     stands(&agent, leaving, Phase::Read, 1)?;
