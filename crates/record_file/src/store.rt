@@ -60,6 +60,7 @@ impl<'a> RecordFile<'a> {
     }
 }
 
+// Three stores of different kind are asked for, and each checks its calls over its own memory.
 impl CellStore for RecordFile<'_> {
     ghost marks = { λ s. records s.file.now };
 
