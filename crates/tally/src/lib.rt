@@ -38,14 +38,18 @@ pub fn lowest_name_of(marks: &[Mark], mark: Mark) -> Option<usize>
     lowest_name(marks, mark)
 }
 
+// Whether a mark is an owner's.
+fn is_owner(mark: Mark) -> bool
+    ensures value { result ≡ is_owner mark }
+{
+    matches!(mark, Mark::Owner(_))
+}
+
 // Whether a mark is an owner's that is none of the first `before` marks.
 fn is_new_owner(marks: &[Mark], before: usize, mark: Mark) -> bool
     ensures value { result ≡ (is_owner mark && not (is_some (lowest (take before marks.now) mark))) }
 {
-    match mark {
-        Mark::Owner(_) => !marks.iter().take(before).any(|other| *other == mark),
-        _ => false,
-    }
+    is_owner(mark) && !marks.iter().take(before).any(|other| *other == mark)
 }
 
 // How many different identities own a mark.
@@ -57,13 +61,6 @@ pub fn count_identities(marks: &[Mark]) -> usize
         .enumerate()
         .filter(|(before, mark)| is_new_owner(marks, *before, **mark))
         .count()
-}
-
-// Whether a mark is an owner's.
-fn is_owner(mark: Mark) -> bool
-    ensures value { result ≡ is_owner mark }
-{
-    matches!(mark, Mark::Owner(_))
 }
 
 // The most marks of one identity, and 0 where no owner's mark stands.
