@@ -9,6 +9,7 @@ pub enum Step {
     Swap(usize, Mark, Mark),
 }
 
+// The steps are data: each is taken, and shown with what it answered.
 pub const STEPS: [Step; 7] = [
     Step::Write(1, Mark::Owner(700)),
     Step::Swap(2, Mark::Empty, Mark::Rung(3)),

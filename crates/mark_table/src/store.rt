@@ -19,6 +19,8 @@ impl MarkTable {
     }
 }
 
+// Three stores of different kind are asked for, and each checks its calls over its own memory. A name counts from 1, so
+// that its mark is at `name - 1`.
 impl CellStore for MarkTable {
     ghost marks = { table_marks };
 

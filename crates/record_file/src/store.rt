@@ -41,10 +41,11 @@ impl<'a> RecordFile<'a> {
         requires { start name + 4 ≤ length self.now.file.now }
         ensures value { result ≡ record_at self.now.file.now (start name) }
     {
-        let at = start(name);
-        let mut bytes = [0; 4];
-        bytes.copy_from_slice(&self.file[at..at + 4]);
-        Mark::from(Record(bytes))
+        let [kind, zero, high, low, ..] = &self.file[start(name)..] else {
+            // Never: a whole record stands there.
+            return Mark::Empty;
+        };
+        Mark::from(Record([*kind, *zero, *high, *low]))
     }
 
     // Puts the record of a mark at a name.
@@ -59,6 +60,7 @@ impl<'a> RecordFile<'a> {
     }
 }
 
+// Three stores of different kind are asked for, and each checks its calls over its own memory.
 impl CellStore for RecordFile<'_> {
     ghost marks = { λ s. records s.file.now };
 

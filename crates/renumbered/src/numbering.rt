@@ -8,8 +8,9 @@ use numbers::names::is_name;
 use numbers::rows::Row;
 use std::marker::Model;
 
-// For each of the names from 1 to their number one of these names, each once. A ghost field could not say so: a store
-// over lent bytes that holds this table is a type argument, and such an argument may hold no struct with a ghost field.
+// For each of the names from 1 to their number one of these names, each once. A model says so and no ghost field: a store
+// over bytes lent to be changed that holds this table is a type argument, and such an argument may hold a struct with a
+// model, but none with a ghost field.
 #[derive(Drop)]
 pub struct Numbering {
     names: ArrayVec<u8, 64>,
@@ -35,8 +36,8 @@ impl Numbering {
         ensures names { (y : ℕ) → 1 ≤ y → y ≤ count → entry result y ≡ R.numbers row.now y }
     {
         let mut names = ArrayVec::new();
+        // No number is cut: `count` is at most 64, and each number at most `count`.
         for name in 1..=count as u16 {
-            // No number is cut: each is at most `count`.
             names.push(row.number_at(name) as u8);
         }
         Numbering { names }

@@ -42,6 +42,7 @@ impl<S: CellStore> Renumbered<S> {
             return Err(Refusal::RowLength);
         }
         let given = Given { row };
+        // The count is not cut: a store has at most 64 cells.
         if let Some(name) = first_misfit(&given, count, count as u16) {
             return Err(Refusal::BadRenumbering { name });
         }

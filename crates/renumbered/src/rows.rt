@@ -26,6 +26,7 @@ impl Row for Given<'_> {
 
     fn number_at(&self, place: u16) -> usize {
         let before = usize::from(place.saturating_sub(1));
+        // 0 past the row's end: total, as its definition is.
         self.row.get(before).copied().unwrap_or(0)
     }
 }

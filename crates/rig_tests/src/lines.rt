@@ -9,7 +9,7 @@ use rules::{Rule, Section};
 use std::test::Fail;
 use test_checks::check_eq;
 
-// A call of a rig, or a question.
+// A call of a rig, or a question. Calls and lines are data: a test is a table of them, and not a chain of code.
 #[derive(Clone, Copy)]
 pub enum Call {
     // The plan of two agents over three cells, or only its first bytes.
@@ -33,7 +33,8 @@ pub enum Call {
 // Accepted, or the number and the first place of a refusal.
 pub type Verdict = Result<(), (u8, usize)>;
 
-// An agent's steps, entries and refusals, and the calls that were heard.
+// An agent's steps, entries and refusals, and the calls that were heard. Not `model::Figures`: a line tells these four
+// counts, and the crowd has its own.
 #[derive(Clone, Copy, PartialEq, Eq, Debug)]
 pub struct Counts {
     pub steps: u32,

@@ -77,6 +77,7 @@ impl Rule for Ladder {
     fn leave(sizes: Sizes, agent: &mut Agent<LadderPhase>) {
         agent.rung = 0;
         let lowest = lowest_flag_set(agent.flags_at(sizes.cells));
+        // At name 1 where no flag is set, as the definition says.
         agent.go(Section::Leaving, LadderPhase::Drop, lowest.unwrap_or(1));
     }
 
@@ -91,6 +92,7 @@ impl Rule for Ladder {
     }
 
     fn step(sizes: Sizes, agent: &mut Agent<LadderPhase>, answer: Answer<'_>) {
+        // One match on phase and answer together: what is next after a name is told in the arm of its phase.
         match (agent.phase, answer) {
             (LadderPhase::Seek, Answer::Cell(mark)) => seek(sizes, agent, mark),
             (LadderPhase::Take, Answer::Went(true)) => {

@@ -8,7 +8,7 @@ use crate::verdict::{Verdict, judge};
 use cells::Mark;
 use numbers::sizes::Sizes;
 use rules::{Agent, Section};
-use tally::{count_flags, count_of, lowest_flag_set};
+use tally::{count_flags, lowest_flag_set};
 
 // Notes a mark while seeking, and goes on to the next name; after the last one to take, if all are empty, or else to seek
 // again.
@@ -18,7 +18,7 @@ pub fn seek(sizes: Sizes, agent: &mut Agent<LadderPhase>, mark: Mark)
     agent.see(mark);
     if agent.name < sizes.cells {
         agent.turn(LadderPhase::Seek, agent.name + 1);
-    } else if count_of(agent.seen_at(sizes.cells), Mark::Empty) == sizes.cells {
+    } else if agent.saw_all_empty(sizes.cells) {
         agent.rung = 1;
         agent.turn(LadderPhase::Take, 1);
     } else {

@@ -17,10 +17,11 @@ pub enum Verdict {
 pub fn judge(sizes: Sizes, rung: u8, count: usize) -> Verdict
     ensures value { result ≡ verdict count sizes.agents rung sizes.cells }
 {
-    let above = sizes.agents.saturating_sub(rung as usize);
+    let above = sizes.agents.saturating_sub(usize::from(rung));
+    // By `as`: no `From` widens a `usize`.
     match count as u128 * (above as u128 + 1) {
         share if share < sizes.cells as u128 => Verdict::Withdraw,
-        _ if rung as usize >= sizes.agents => Verdict::Hold,
+        _ if usize::from(rung) >= sizes.agents => Verdict::Hold,
         _ => Verdict::Climb,
     }
 }

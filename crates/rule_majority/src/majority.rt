@@ -78,6 +78,7 @@ impl Rule for Majority {
     }
 
     fn leave(sizes: Sizes, agent: &mut Agent<MajorityPhase>) {
+        // Name 1 where none was seen as own, as the definition says.
         let name = lowest_own(sizes, agent).unwrap_or(1);
         agent.go(Section::Leaving, MajorityPhase::Give, name);
     }
@@ -91,6 +92,7 @@ impl Rule for Majority {
     }
 
     fn step(sizes: Sizes, agent: &mut Agent<MajorityPhase>, answer: Answer<'_>) {
+        // One match on phase and answer together: each phase has its arm for a next name, and one for after the last.
         match (agent.phase, answer) {
             (MajorityPhase::Take, Answer::Went(_)) if agent.name < sizes.cells => {
                 agent.turn(MajorityPhase::Take, agent.name + 1);

@@ -1,10 +1,9 @@
 // The moves of an agent under the rule.
 ghost use Rattle.std.specs.Prelude.{◌≡◌};
-ghost use Rattle.rule_majority.specs.Majority.{own_name, own_seen, most_seen, all_empty, nothing_left, give_next, decided, waited};
+ghost use Rattle.rule_majority.specs.Majority.{own_name, own_seen, most_seen, nothing_left, give_next, decided, waited};
 
 use crate::phase::MajorityPhase;
 use crate::verdict::{Verdict, judge};
-use cells::Mark;
 use numbers::sizes::Sizes;
 use rules::{Agent, Section};
 use tally::{count_of, lowest_name_of, most_of_one_identity};
@@ -28,13 +27,6 @@ fn count_most(sizes: Sizes, agent: &Agent<MajorityPhase>) -> usize
     ensures value { result ≡ most_seen sizes.cells agent.now }
 {
     most_of_one_identity(agent.seen_at(sizes.cells))
-}
-
-// Whether all cells were seen empty.
-fn saw_all_empty(sizes: Sizes, agent: &Agent<MajorityPhase>) -> bool
-    ensures value { result ≡ all_empty sizes.cells agent.now }
-{
-    count_of(agent.seen_at(sizes.cells), Mark::Empty) == sizes.cells
 }
 
 // With nothing left to give, an asking agent waits and a leaving one is idle.
@@ -74,7 +66,7 @@ pub fn decide(sizes: Sizes, agent: &mut Agent<MajorityPhase>)
 pub fn wait_on(sizes: Sizes, agent: &mut Agent<MajorityPhase>)
     ensures after { agent.new ≡ waited sizes.cells agent.old }
 {
-    let phase = if saw_all_empty(sizes, agent) {
+    let phase = if agent.saw_all_empty(sizes.cells) {
         MajorityPhase::Take
     } else {
         MajorityPhase::Wait

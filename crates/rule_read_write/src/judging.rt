@@ -6,7 +6,7 @@ use cells::Mark;
 use tally::{count_identities, count_of, lowest_name_of};
 
 // Hold the window; look again; put the own mark at a name; or withdraw.
-#[derive(Clone, Copy)]
+#[derive(Clone, Copy, PartialEq, Eq, Debug)]
 pub enum Verdict {
     Hold,
     Again,

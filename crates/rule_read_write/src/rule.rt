@@ -113,6 +113,7 @@ impl Rule for ReadWrite {
     }
 
     fn step(sizes: Sizes, agent: &mut Agent<Phase>, answer: Answer<'_>) {
+        // One match on phase and answer together: a read and a clearing go on to the next name alike.
         match (agent.phase, answer) {
             (Phase::Look, Answer::Marks(marks)) => look(sizes, agent, marks),
             (Phase::Put, Answer::Done) => agent.turn(Phase::Look, 1),

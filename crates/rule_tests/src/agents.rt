@@ -1,7 +1,7 @@
 // Agents to begin with, and what is checked of them afterwards.
 use cells::Mark;
 use numbers::sizes::Sizes;
-use rules::{Agent, Section};
+use rules::{Agent, Answer, Rule, Section};
 use std::fmt::Debug;
 use std::test::Fail;
 use test_checks::check_eq;
@@ -50,6 +50,22 @@ pub fn stands<P: PartialEq + Debug + Copy>(
     check_eq(agent.phase, phase)?;
     check_eq(agent.name, name)?;
     check_eq(agent.identity, ME)
+}
+
+// An agent in a section, at a phase and a name, gets an answer, among three cells, and goes to others.
+pub fn steps<R: Rule>(
+    from: (Section, R::Phase, usize),
+    answer: Answer<'_>,
+    to: (Section, R::Phase, usize),
+) -> Result<(), Fail>
+where
+    R::Phase: PartialEq + Debug,
+{
+    let (section, phase, name) = from;
+    let mut agent = at(section, phase, name);
+    R::step(SIZES, &mut agent, answer);
+    let (section, phase, name) = to;
+    stands(&agent, section, phase, name)
 }
 
 // What was seen at the first names.

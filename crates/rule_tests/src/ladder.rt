@@ -44,7 +44,7 @@ fn seeks() -> Result<(), Fail> {
     has(&agent, 0, FLAT)
 }
 
-// After TAKE 3 on rung 1 twice the count stands against 3: here 0 and 2.
+// After `Phase::Take` at name 3 on rung 1 twice the count stands against 3: here 0 and 2.
 #[test]
 fn takes() -> Result<(), Fail> {
     let mut agent = climber(Phase::Take, 1, 1, FLAT);

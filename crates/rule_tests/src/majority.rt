@@ -1,18 +1,11 @@
 // Rule 2.
-use crate::agents::{NONE, OTHER, OWN, SIZES, THIRD, at, has_seen, having, over, stands};
+use crate::agents::{NONE, OTHER, OWN, SIZES, THIRD, at, has_seen, having, over, stands, steps};
 use cells::Mark;
 use rule_majority::{Majority, MajorityPhase as Phase};
 use rules::{Answer, Rule, Section};
 use std::test::Fail;
 
-// An asking agent in a phase gets an answer, among three cells.
-fn steps(from: (Phase, usize), answer: Answer<'_>, to: (Phase, usize)) -> Result<(), Fail> {
-    let mut agent = at(Section::Asking, from.0, from.1);
-    Majority::step(SIZES, &mut agent, answer);
-    stands(&agent, Section::Asking, to.0, to.1)
-}
-
-// The last of these marks is read by SCAN, the others were seen before.
+// The last of these marks is read in `Phase::Scan`, the others were seen before.
 fn scans(
     marks: &[Mark],
     last: Mark,
@@ -27,17 +20,51 @@ fn scans(
 }
 
 #[test]
-fn takes_scans_and_waits() -> Result<(), Fail> {
-    steps((Phase::Take, 1), Answer::Went(true), (Phase::Take, 2))?;
-    steps((Phase::Take, 1), Answer::Went(false), (Phase::Take, 2))?;
-    steps((Phase::Take, 3), Answer::Went(false), (Phase::Scan, 1))?;
-    steps((Phase::Scan, 1), Answer::Cell(OTHER), (Phase::Scan, 2))?;
-    steps((Phase::Wait, 1), Answer::Cell(OTHER), (Phase::Wait, 2))?;
-    steps((Phase::Wait, 3), Answer::Cell(NONE), (Phase::Take, 1))?;
-    steps((Phase::Wait, 3), Answer::Cell(OTHER), (Phase::Wait, 1))?;
-    let mut agent = having(at(Section::Asking, Phase::Wait, 3), &[NONE, OTHER, NONE]);
+fn takes_and_scans() -> Result<(), Fail> {
+    let asking = Section::Asking;
+    steps::<Majority>(
+        (asking, Phase::Take, 1),
+        Answer::Went(true),
+        (asking, Phase::Take, 2),
+    )?;
+    steps::<Majority>(
+        (asking, Phase::Take, 1),
+        Answer::Went(false),
+        (asking, Phase::Take, 2),
+    )?;
+    steps::<Majority>(
+        (asking, Phase::Take, 3),
+        Answer::Went(false),
+        (asking, Phase::Scan, 1),
+    )?;
+    steps::<Majority>(
+        (asking, Phase::Scan, 1),
+        Answer::Cell(OTHER),
+        (asking, Phase::Scan, 2),
+    )
+}
+
+#[test]
+fn waits() -> Result<(), Fail> {
+    let asking = Section::Asking;
+    steps::<Majority>(
+        (asking, Phase::Wait, 1),
+        Answer::Cell(OTHER),
+        (asking, Phase::Wait, 2),
+    )?;
+    steps::<Majority>(
+        (asking, Phase::Wait, 3),
+        Answer::Cell(NONE),
+        (asking, Phase::Take, 1),
+    )?;
+    steps::<Majority>(
+        (asking, Phase::Wait, 3),
+        Answer::Cell(OTHER),
+        (asking, Phase::Wait, 1),
+    )?;
+    let mut agent = having(at(asking, Phase::Wait, 3), &[NONE, OTHER, NONE]);
     Majority::step(SIZES, &mut agent, Answer::Cell(NONE));
-    stands(&agent, Section::Asking, Phase::Wait, 1)
+    stands(&agent, asking, Phase::Wait, 1)
 }
 
 // Own marks against the most of one identity: 2 and 2 of 3; 1 and 2; 0 and 2; 1 and 1; none; rungs do not count.

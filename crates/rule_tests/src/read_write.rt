@@ -1,5 +1,5 @@
 // Rule 1.
-use crate::agents::{NONE, OTHER, OWN, SIZES, THIRD, at, has_seen, over, stands};
+use crate::agents::{NONE, OTHER, OWN, SIZES, THIRD, at, has_seen, over, stands, steps};
 use cells::Mark;
 use rule_read_write::{ReadWrite, ReadWritePhase as Phase};
 use rules::{Answer, Rule, Section};
@@ -11,17 +11,6 @@ fn looks(marks: &[Mark], section: Section, phase: Phase, name: usize) -> Result<
     ReadWrite::step(over(marks.len()), &mut agent, Answer::Marks(marks));
     has_seen(&agent, marks)?;
     stands(&agent, section, phase, name)
-}
-
-// An agent in a phase gets an answer, among three cells.
-fn steps(
-    from: (Section, Phase, usize),
-    answer: Answer<'_>,
-    to: (Section, Phase, usize),
-) -> Result<(), Fail> {
-    let mut agent = at(from.0, from.1, from.2);
-    ReadWrite::step(SIZES, &mut agent, answer);
-    stands(&agent, to.0, to.1, to.2)
 }
 
 #[test]
@@ -60,46 +49,51 @@ fn looks_at_full_cells() -> Result<(), Fail> {
 }
 
 #[test]
-fn puts_reads_and_clears() -> Result<(), Fail> {
+fn puts_and_clears() -> Result<(), Fail> {
     let asking = Section::Asking;
-    steps(
+    steps::<ReadWrite>(
         (asking, Phase::Put, 1),
         Answer::Done,
         (asking, Phase::Look, 1),
     )?;
-    steps(
+    steps::<ReadWrite>(
         (asking, Phase::Put, 3),
         Answer::Done,
         (asking, Phase::Look, 1),
     )?;
-    steps(
+    steps::<ReadWrite>(
+        (asking, Phase::Clear, 1),
+        Answer::Done,
+        (asking, Phase::Read, 2),
+    )?;
+    steps::<ReadWrite>(
+        (asking, Phase::Clear, 3),
+        Answer::Done,
+        (asking, Phase::Look, 1),
+    )
+}
+
+#[test]
+fn reads() -> Result<(), Fail> {
+    let asking = Section::Asking;
+    steps::<ReadWrite>(
         (asking, Phase::Read, 1),
         Answer::Cell(OWN),
         (asking, Phase::Clear, 1),
     )?;
-    steps(
+    steps::<ReadWrite>(
         (asking, Phase::Read, 1),
         Answer::Cell(OTHER),
         (asking, Phase::Read, 2),
     )?;
-    steps(
+    steps::<ReadWrite>(
         (asking, Phase::Read, 3),
         Answer::Cell(OWN),
         (asking, Phase::Clear, 3),
     )?;
-    steps(
+    steps::<ReadWrite>(
         (asking, Phase::Read, 3),
         Answer::Cell(NONE),
-        (asking, Phase::Look, 1),
-    )?;
-    steps(
-        (asking, Phase::Clear, 1),
-        Answer::Done,
-        (asking, Phase::Read, 2),
-    )?;
-    steps(
-        (asking, Phase::Clear, 3),
-        Answer::Done,
         (asking, Phase::Look, 1),
     )
 }
@@ -108,18 +102,18 @@ fn puts_reads_and_clears() -> Result<(), Fail> {
 fn leaves() -> Result<(), Fail> {
     let leaving = Section::Leaving;
     let idle = (Section::Idle, Phase::Look, 1);
-    steps(
+    steps::<ReadWrite>(
         (leaving, Phase::Read, 2),
         Answer::Cell(NONE),
         (leaving, Phase::Read, 3),
     )?;
-    steps((leaving, Phase::Read, 3), Answer::Cell(OTHER), idle)?;
-    steps(
+    steps::<ReadWrite>((leaving, Phase::Read, 3), Answer::Cell(OTHER), idle)?;
+    steps::<ReadWrite>(
         (leaving, Phase::Clear, 2),
         Answer::Done,
         (leaving, Phase::Read, 3),
     )?;
-    steps((leaving, Phase::Clear, 3), Answer::Done, idle)?;
+    steps::<ReadWrite>((leaving, Phase::Clear, 3), Answer::Done, idle)?;
     let mut agent = at(Section::Holding, Phase::Look, 1);
     ReadWrite::leave(over(1), &mut agent);
     stands(&agent, leaving, Phase::Read, 1)?;

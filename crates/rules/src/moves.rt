@@ -1,11 +1,13 @@
 // Changes of a record that every rule makes.
-ghost use Rattle.std.specs.Prelude.{◌≡◌, ◌-◌, replicate, slice_set};
+ghost use Rattle.std.specs.Prelude.{◌≡◌, ◌-◌, ◌==◌, replicate, slice_set};
 ghost use Rattle.cells.specs.declared.mark.Mark.TheVariants.{Empty};
+ghost use Rattle.tally.specs.Counts.{times};
 ghost use Rattle.rules.specs.Records.{own, seen_at, flags_at, going, having_seen, flagged, overlaid};
 
 use crate::agent::{Agent, Section};
 use crate::marks::{front, note, note_all};
 use cells::Mark;
+use tally::count_of;
 
 impl<P: Copy> Agent<P> {
     // The agent's own mark.
@@ -20,6 +22,13 @@ impl<P: Copy> Agent<P> {
         ensures value { result.now ≡ seen_at self.now cells }
     {
         front(&self.seen, cells)
+    }
+
+    // Whether an empty mark was seen at each of the names 1 to `cells`.
+    pub fn saw_all_empty(&self, cells: usize) -> bool
+        ensures value { result ≡ (times (seen_at self.now cells) Empty == cells) }
+    {
+        count_of(self.seen_at(cells), Mark::Empty) == cells
     }
 
     // The flags at the names 1 to `cells`.

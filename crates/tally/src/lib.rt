@@ -2,7 +2,7 @@
 
 #![tactic(auto)]
 
-ghost use Rattle.std.specs.Prelude.{◌≡◌, ◌&&◌, not, is_some, take, cond, count_by};
+ghost use Rattle.std.specs.Prelude.{◌≡◌, ◌&&◌, not, is_some, take, count_by};
 ghost use Rattle.tally.specs.Counts.{times, lowest, is_owner, identities, most_of_one, flags_set, lowest_flag};
 ghost use Rattle.tally.specs.Names.{lowest_name};
 
@@ -38,14 +38,18 @@ pub fn lowest_name_of(marks: &[Mark], mark: Mark) -> Option<usize>
     lowest_name(marks, mark)
 }
 
+// Whether a mark is an owner's.
+fn is_owner(mark: Mark) -> bool
+    ensures value { result ≡ is_owner mark }
+{
+    matches!(mark, Mark::Owner(_))
+}
+
 // Whether a mark is an owner's that is none of the first `before` marks.
 fn is_new_owner(marks: &[Mark], before: usize, mark: Mark) -> bool
     ensures value { result ≡ (is_owner mark && not (is_some (lowest (take before marks.now) mark))) }
 {
-    match mark {
-        Mark::Owner(_) => !marks.iter().take(before).any(|other| *other == mark),
-        _ => false,
-    }
+    is_owner(mark) && !marks.iter().take(before).any(|other| *other == mark)
 }
 
 // How many different identities own a mark.
@@ -59,23 +63,14 @@ pub fn count_identities(marks: &[Mark]) -> usize
         .count()
 }
 
-// How often an owner's mark stands among all; 0 where it is no owner's.
-fn count_of_owner(marks: &[Mark], mark: Mark) -> usize
-    ensures value { result ≡ cond (is_owner mark) (times marks.now mark) 0 }
-{
-    match mark {
-        Mark::Owner(_) => count_of(marks, mark),
-        _ => 0,
-    }
-}
-
-// The most marks of one identity.
+// The most marks of one identity, and 0 where no owner's mark stands.
 pub fn most_of_one_identity(marks: &[Mark]) -> usize
     ensures value { result ≡ most_of_one marks.now }
 {
     marks
         .iter()
-        .map(|mark| count_of_owner(marks, *mark))
+        .filter(|mark| is_owner(**mark))
+        .map(|mark| count_of(marks, *mark))
         .max()
         .unwrap_or(0)
 }

@@ -1,4 +1,4 @@
-use Rattle.std.proofs.Common.{rules, tests, ◌≡◌, ◌&&◌, not, take, is_some, sym, ap, ◌∙◌}
+use Rattle.std.proofs.Common.{rules, tests, ◌≡◌, ◌&&◌, true, not, take, is_some, sym, ap, ◌∙◌}
 use Rattle.std.specs.List.{list_any}
 use Rattle.std.proofs.lemmas.Iterator.{YieldsList-from_slice, YieldsList-from_take}
 use Rattle.std.proofs.lemmas.Iterator.Search.{any_from_yields_List}
@@ -6,10 +6,11 @@ use Rattle.tally.specs.Counts.{is_owner, lowest}
 use Rattle.tally.proofs.EqualLaws.{equals, stands}
 use Rattle.tally.proofs.is_new_owner.Goals as goal
 
-pub returns-in-Owner : goal.returns-in-Owner
-returns-in-Owner c =
+pub returns-then-is_owner : goal.returns-then-is_owner
+returns-then-is_owner c =
     let front = take c.args.before c.args.marks.now in
     let k = c.args.mark in
+    let owner : is_owner k ≡ true = search (rules, tests) in
     let found : c.any.result ≡ list_any (equals k) front =
     any_from_yields_List (equals k) _ _ c.any.result c.any.ensures.ran (YieldsList-from_take c.args.before (YieldsList-from_slice c.args.marks.now cc) cc) (λ x b q g. search (rules, tests)) in
-    record { value = ap not (found ∙ stands front k) ∙ ap (λ b. b && not (is_some (lowest front k))) (sym (ap is_owner c.in-Owner.is)) }
+    record { value = ap not (found ∙ stands front k) ∙ ap (λ b. b && not (is_some (lowest front k))) (sym owner) }
