@@ -45,8 +45,7 @@ impl<S: CellStore, R: Rule> Rig<S, R> {
     pub fn holder(&self) -> Option<usize>
         ensures value { result ≡ holder (rig_of self.now) }
     {
-        let before = self.seats.first_holding()?;
-        Some(before + 1)
+        self.seats.first_holding().map(|before| before + 1)
     }
 
     // How many agents ask.

@@ -14,7 +14,6 @@ use crate::seat::Seat;
 use crate::seats::Seats;
 use cells::CellStore;
 use numbers::factors::smallest_common_factor;
-use numbers::names::is_within;
 use numbers::sizes::Sizes;
 use refusal::Refusal;
 use rules::Rule;
@@ -86,10 +85,10 @@ impl<S: CellStore, R: Rule> Rig<S, R> {
             return Err(Refusal::NotBlank);
         }
         let Sizes { agents, cells } = sizes;
-        if !is_within(2, 16, agents) {
+        if !(2..=16).contains(&agents) {
             return Err(Refusal::StandoffAgents);
         }
-        if !is_within(2, 64, cells) {
+        if !(2..=64).contains(&cells) {
             return Err(Refusal::StandoffCells);
         }
         let Some(together) = smallest_common_factor(sizes) else {
