@@ -32,11 +32,12 @@ use twins::TwinRigs;
 // The names moved on by one: the last stands for the first below.
 fn moved_on<S: CellStore + Drop>(heap: Global, store: S) -> anyhow::Result<Renumbered<S>> {
     let row: Vec<usize> = (2..=store.count()).chain(iter::once(1)).collect(heap)?;
-    Renumbered::with_row(store, row.as_slice())
-        .map_err(|_| anyhow!("the names moved on were refused"))
+    Renumbered::with_row(store, row.as_slice()).map_err(|_| anyhow!(
+        "the names moved on were refused"
+    ))
 }
 
-// The word for what a load answered.
+// The word for what a load answered: only this program says so, and a Result has no words.
 fn load_word(answer: Result<(), Refusal>) -> &'static str {
     if answer.is_ok() {
         "accepted"
@@ -83,6 +84,7 @@ fn play_script<S: CellStore, T: CellStore, U: CellStore, R: Rule>(
         .tell(rt)?,
         Err(_) => false,
     };
+    // Without a common factor the load is refused, and the line says that 0 agents move together.
     let together = smallest_common_factor(script.standoff.sizes).unwrap_or(0);
     let standoff = tell_standoff(rt, third, together)?;
     Ok(loads && twins && standoff)

@@ -31,7 +31,7 @@ struct Turning {
 
 impl Turning {
     // The cell that an agent calls by a local name: for those that move together, after the last cell comes the first;
-    // the others call each cell as the store does.
+    // the others call each cell as the store does. Names are at most 64, so they fit.
     fn entry(&self, agent: usize, name: usize) -> u8
         requires first { 1 ≤ agent }
         requires last { agent ≤ 16 }
@@ -54,7 +54,7 @@ impl Turning {
         array::from_fn(|before| self.entry(agent, before + 1))
     }
 
-    // An agent whose identity is its number.
+    // An agent whose identity is its number: at most 16, so it fits.
     fn seat<R: Rule>(&self, agent: usize) -> Seat<R::Phase>
         requires first { 1 ≤ agent }
         requires last { agent ≤ 16 }
