@@ -36,13 +36,15 @@ impl ExclusiveRule for Ladder {
 }
 
 // Under a rule of this kind no two agents hold together: the theorem, for a caller that names the rule.
+// It answers `true` and not `()`, so that whoever tests the answer goes on as before; the theorem is the contract.
 pub fn no_two_holders<R: ExclusiveRule>() -> bool
     ensures exclusive { NoTwoHolders (meaning_of R.Rule) }
 {
     true
 }
 
-// The numbers of the three published rules, under each of which no two agents hold together.
+// The numbers of the three published rules, under each of which no two agents hold together. `fruitless_rules` of
+// crate lockstep has the same lines, but its clauses name another theorem.
 pub fn exclusive_rules() -> [u8; 3]
     ensures value { result ≡ read_and_write.number ∷ by_majority.number ∷ by_ladder.number ∷ [] }
     ensures read_write { NoTwoHolders read_and_write }

@@ -1,4 +1,5 @@
-// Stand-offs: where the number of cells has a common factor with a number of agents, agents that move together stay together.
+// Stand-offs: where the number of cells has a common factor with a number of agents, agents that move together stay
+// together.
 
 #![tactic(auto)]
 
@@ -13,6 +14,7 @@ use rule_read_write::ReadWrite;
 use rules::Rule;
 
 // Under every lawful rule the agents that move together on a stand-off are always in the same section.
+// It answers `true` and not `()`, so that whoever tests the answer goes on as before; the theorem is the contract.
 pub fn same_section<R: Rule>() -> bool
     ensures stands_off { StandsOff (meaning_of R.Rule) }
     ensures same_section { SameSection (meaning_of R.Rule) }
@@ -21,13 +23,15 @@ pub fn same_section<R: Rule>() -> bool
 }
 
 // Under a rule that excludes two holders, nobody ever holds on a stand-off.
+// It answers `true` and not `()`, so that whoever tests the answer goes on as before; the theorem is the contract.
 pub fn nobody_holds<R: ExclusiveRule>() -> bool
     ensures nobody_holds { NobodyHolds (meaning_of R.Rule) }
 {
     true
 }
 
-// The numbers of the three published rules, under each of which nobody ever holds on a stand-off.
+// The numbers of the three published rules, under each of which nobody ever holds on a stand-off. Not one function with
+// `exclusive_rules`: its clauses name another theorem.
 pub fn fruitless_rules() -> [u8; 3]
     ensures value { result ≡ read_and_write.number ∷ by_majority.number ∷ by_ladder.number ∷ [] }
     ensures read_write { NobodyHolds read_and_write }

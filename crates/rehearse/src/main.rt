@@ -37,7 +37,7 @@ fn moved_on<S: CellStore + Drop>(heap: Global, store: S) -> anyhow::Result<Renum
     ))
 }
 
-// The word for what a load answered.
+// The word for what a load answered: only this program says so, and a Result has no words.
 fn load_word(answer: Result<(), Refusal>) -> &'static str {
     if answer.is_ok() {
         "accepted"
@@ -84,6 +84,7 @@ fn play_script<S: CellStore, T: CellStore, U: CellStore, R: Rule>(
         .tell(rt)?,
         Err(_) => false,
     };
+    // Without a common factor the load is refused, and the line says that 0 agents move together.
     let together = smallest_common_factor(script.standoff.sizes).unwrap_or(0);
     let standoff = tell_standoff(rt, third, together)?;
     Ok(loads && twins && standoff)

@@ -50,6 +50,7 @@ pub fn tell_standoff<S: CellStore, R: Rule>(
     } else {
         "somebody holds"
     };
+    // The line says 0 for nobody.
     let number = holder.unwrap_or(0);
     println!(rt; "stand-off crowd {crowd} holder {number}, {held}")?;
     Ok(same && holder.is_none())

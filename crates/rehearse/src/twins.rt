@@ -4,7 +4,7 @@ use rehearsals::{Twins, is_alike};
 use rig::Rig;
 use rules::Rule;
 
-// The word for whether something agrees.
+// The word for whether something agrees: only this program says so.
 fn sameness(same: bool) -> &'static str {
     if same { "the same" } else { "another" }
 }
@@ -38,6 +38,7 @@ impl<S: CellStore, T: CellStore, R: Rule> TwinRigs<'_, S, T, R> {
     // What both rigs tell of all agents.
     fn tell_agents(&self, rt: &impl Print) -> anyhow::Result<bool> {
         let mut same = self.first.agents() == self.second.agents();
+        // Each line is printed, so no `all`, which stops at the first that is not so.
         for k in 1..=self.first.agents() {
             same &= self.tell_agent(rt, k)?;
         }
@@ -62,17 +63,19 @@ impl<S: CellStore, T: CellStore, R: Rule> TwinRigs<'_, S, T, R> {
     // All cells of the first rig, and what they became in the second.
     fn tell_cells(&self, rt: &impl Print) -> anyhow::Result<bool> {
         let mut same = self.first.cells() == self.second.cells();
+        // Each line is printed, so no `all`.
         for name in 1..=self.first.cells() {
             same &= self.tell_cell(rt, name)?;
         }
         Ok(same)
     }
 
-    // The most agents that asked together, and who holds: 0 for nobody.
+    // The most agents that asked together, and who holds.
     fn tell_holder(&self, rt: &impl Print) -> anyhow::Result<bool> {
         let crowd = self.first.crowd();
         let holder = self.first.holder();
         let same = self.second.crowd() == crowd && self.second.holder() == holder;
+        // The line says 0 for nobody.
         let holder = holder.unwrap_or(0);
         let sameness = sameness(same);
         println!(rt; "crowd {crowd} holder {holder}, twin {sameness}")?;

@@ -10,6 +10,7 @@ ghost use Rattle.renumbering.specs.Renumbering.{RenumberingInvisible, TwinFiles}
 use rules::Rule;
 
 // Two rigs whose plans differ by a renumbering of the cells and by their identities answer alike, whatever they hear.
+// It answers `true` and not `()`, so that whoever tests the answer goes on as before; the theorem is the contract.
 pub fn renumbering_unseen<R: Rule>() -> bool
     ensures invisible { RenumberingInvisible (meaning_of R.Rule) }
 {

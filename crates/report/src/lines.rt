@@ -10,6 +10,8 @@ use itoa::Integer;
 use model::Figures;
 use rules::Section;
 
+// Piece by piece and not by `write!`: what `write!` writes is promised only where it answers Ok, and nothing promises that
+// it does.
 impl Sheet {
     // A label and the number behind it.
     fn labelled<I: Integer>(&mut self, label: &str, number: I)
@@ -42,7 +44,7 @@ impl Sheet {
         self.text("\n");
     }
 
-    // By hand and no `write!`, whose text is promised only where it answers Ok: nothing promises that it does.
+    // What a mark says of its cell.
     fn mark(&mut self, mark: Mark)
         ensures after { Puts self.old (mark_words mark) self.new }
         ensures short { length (mark_words mark) ≤ 11 }
@@ -65,7 +67,7 @@ impl Sheet {
         self.text("\n");
     }
 
-    // The crowd, and the agent that holds, 0 where nobody does.
+    // The crowd, and the agent that holds; the line says 0 for nobody.
     pub(crate) fn last_line(&mut self, crowd: u8, holder: Option<usize>)
         ensures after { Puts self.old (last_line crowd holder) self.new }
     {

@@ -1,12 +1,16 @@
 -- Whether a store has so many cells, all of them empty. Assumes nothing.
-use Rattle.std.proofs.Common.{◌≡◌, ℕ, ◌+◌, ◌≤◌, Bool, true, not, List, length, Ok, Err, sym, ap, ◌∙◌, arith}
+use Rattle.std.proofs.Common.{◌≡◌, ℕ, ◌+◌, Bool, true, not, List, length, Ok, refl, sym, ap, ◌∙◌, arith}
 use Rattle.std.proofs.lemmas.Bool.{eq-eqb}
-use Rattle.numbers.specs.First.{first_of, NonePasses}
-use Rattle.numbers.proofs.FirstLaws.{none_up_to, first_up_to}
+use Rattle.std.specs.Result.{result_eq}
+use Rattle.numbers.specs.First.{first_of}
+use Rattle.numbers.proofs.FirstLaws.{first_same}
+use Rattle.numbers.proofs.RowLaws.{within_from}
+use Rattle.numbers.specs.Rows.{within}
 use Rattle.refusal.specs.Checks.{◌then◌, refuse_if, refuse_at}
-use Rattle.refusal.specs.declared.Refusal.TheVariants.{CellCount, CellTaken}
+use Rattle.refusal.specs.declared.Refusal.TheVariants.{CellCount, CellTaken, NoSuchCell}
+use Rattle.refusal.specs.contracts.RefusalPartialEq as refusals
 use Rattle.cells.proofs.MarkLaws.{eq_is}
-use Rattle.cells.specs.Marks.{mark_at, same_mark}
+use Rattle.cells.specs.Marks.{mark_at, read_answer, same_mark}
 use Rattle.cells.specs.contracts.mark.MarkPartialEq as derived
 use Rattle.cells.specs.declared.mark.Mark.{Mark}
 use Rattle.cells.specs.declared.mark.Mark.TheVariants.{Empty}
@@ -17,17 +21,21 @@ module _ (ms : List Mark) where
   abbrev pub taken : ℕ → Bool
   taken y = not (same_mark (mark_at ms y) Empty)
 
-  -- as `!=` tells it of the mark that was read
-  pub seen_taken : (y : ℕ) (k : Mark) → k ≡ mark_at ms y → taken y ≡ not ((derived.TheImpl.ghosts).eq k Empty)
-  seen_taken y k e = ap (λ j. not (same_mark j Empty)) (sym e) ∙ ap not (sym (eq_is k Empty))
+  -- as `!=` tells it of what a read answers: a name that is none is refused, and is not empty either
+  abbrev pub differs : ℕ → Bool
+  differs y = not (result_eq (derived.TheImpl.ghosts).eq (refusals.TheImpl.ghosts).eq (read_answer ms y) (Ok Empty))
+
+  at_name : (y : ℕ) → within 1 (length ms) y ≡ true → differs y ≡ taken y
+  at_name y known =
+      ap (λ b. not (result_eq (derived.TheImpl.ghosts).eq (refusals.TheImpl.ghosts).eq (refuse_if (not b) (NoSuchCell y) then Ok (mark_at ms y)) (Ok Empty))) known
+      ∙ ap not (eq_is (mark_at ms y) Empty)
 
   -- the right number of cells
   counted : (m : ℕ) → length ms ≡ m → empty_check m ms ≡ refuse_at CellTaken (first_of taken 1 m)
   counted m same = ap (λ b. refuse_if (not b) CellCount then refuse_at CellTaken (first_of taken 1 m)) (eq-eqb (length ms) m same)
 
-  -- the first cell that is taken, and none
-  pub first_taken : (m y : ℕ) → length ms ≡ m → 1 ≤ y → y ≤ m → taken y ≡ true → NonePasses taken 1 y → empty_check m ms ≡ Err (CellTaken y)
-  first_taken m y same a b here before = counted m same ∙ ap (refuse_at CellTaken) (first_up_to taken m y a b here before)
-
-  pub all_empty : (m : ℕ) → length ms ≡ m → NonePasses taken 1 (m + 1) → empty_check m ms ≡ Ok tt
-  all_empty m same none = counted m same ∙ ap (refuse_at CellTaken) (none_up_to taken m (λ k a b. none k a (omega arith)))
+  -- a search for the first cell that differs
+  pub searched : (m : ℕ) → length ms ≡ m → refuse_at CellTaken (first_of differs 1 m) ≡ empty_check m ms
+  searched m same =
+      ap (refuse_at CellTaken) (first_same differs taken 1 m (1 + m) refl (λ y a b. at_name y (within_from 1 (length ms) y a (omega arith))))
+      ∙ sym (counted m same)

@@ -1,5 +1,5 @@
 -- Names of a list's elements, and what chains over the list and over its names find and count. Assumes nothing.
-use Rattle.std.proofs.Common.{◌≡◌, ℕ, zero, suc, ◌+◌, Bool, true, false, cond, List, [], ◌∷◌, map, length, is_some, Some, Option, refl, sym, ap, ◌∙◌, add-one, add-zero, zero-add, add_assoc, arith}
+use Rattle.std.proofs.Common.{◌≡◌, ℕ, suc, ◌+◌, Bool, true, false, cond, List, [], ◌∷◌, map, length, Some, Option, refl, sym, ap, ◌∙◌, add-one, add-zero, zero-add, add_assoc, arith}
 use Rattle.std.specs.List.{position, position_from, count_by, slice_get}
 use Rattle.std.specs.Option.{option_map}
 use Rattle.std.proofs.lemmas.Iterator.Adapters.{position_from-zero}

@@ -1,14 +1,12 @@
 -- Rounds, agent by agent. Assumes nothing.
-use Rattle.std.proofs.Common.{◌≡◌, ℕ, suc, ◌+◌, ◌-◌, ◌≤◌, true, false, is_some, is_err, Some, None, Ok, Err, Option, sym, refl, ap, ◌∙◌, le_refl, arith}
-use Rattle.numbers.specs.First.{NonePasses}
+use Rattle.std.proofs.Common.{◌≡◌, ℕ, suc, ◌+◌, ◌-◌, ◌≤◌, true, false, is_err, Some, None, Ok, Err, Option, sym, refl, ap, ◌∙◌, le_refl, arith}
 use Rattle.numbers.specs.Names.{named}
-use Rattle.numbers.proofs.FirstLaws.{none_up_to, first_up_to}
-use Rattle.refusal.specs.Checks.{◌then◌, Check, refuse_if}
+use Rattle.refusal.specs.Checks.{◌then◌, Check}
 use Rattle.plan.specs.declared.event.Event.{Event}
 use Rattle.plan.specs.declared.event.Event.TheVariants as event
 use Rattle.model.specs.Meanings.{Meaning}
 use Rattle.model.specs.Rigs as model
-use Rattle.model.specs.Rounds.{given, refusal_of, in_turn, may_not, all_may, moving, round_hearing, round_answer, after_round}
+use Rattle.model.specs.Rounds.{given, in_turn, all_may, moving, round_hearing, round_answer, after_round}
 use Rattle.model.specs.declared.Round.{Round}
 
 -- the next name, where those before it are done

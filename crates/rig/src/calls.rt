@@ -46,7 +46,9 @@ impl<S: CellStore, R: Rule> Rig<S, R> {
         self.hear(event, checked)
     }
 
-    // The project asks for each kind of call by a name of its own too: here an agent begins to ask.
+    // Users ask for each kind of call by a name of its own too.
+
+    // Agent k begins to ask.
     pub fn request(&mut self, k: usize) -> Result<(), Refusal>
         ensures value { result ≡ answer (meaning_of R.Rule) (world S.marks self.old) (Request k) }
         ensures after { world S.marks self.new ≡ after (meaning_of R.Rule) (world S.marks self.old) (Request k) }

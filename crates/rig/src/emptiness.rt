@@ -12,10 +12,8 @@ pub fn check_empty<S: CellStore>(store: &S, cells: usize) -> Result<(), Refusal>
     if store.count() != cells {
         return Err(Refusal::CellCount);
     }
-    for name in 1..=cells {
-        if store.read(name)? != Mark::Empty {
-            return Err(Refusal::CellTaken { name });
-        }
+    match (1..=cells).find(|name| store.read(*name) != Ok(Mark::Empty)) {
+        Some(name) => Err(Refusal::CellTaken { name }),
+        None => Ok(()),
     }
-    Ok(())
 }

@@ -40,7 +40,8 @@ fn planned_seat<R: Rule>(plan: &Plan<'_>, agent: usize) -> Seat<R::Phase>
     new_seat::<R>(identity, table_of(plan, agent))
 }
 
-// Seats the agents of a plan in place of all others.
+// Seats the agents of a plan in place of all others. What differs for a stand-off is what seats are made of, which `fill`
+// takes as a function.
 fn seat_planned<R: Rule>(seats: &mut Seats<R::Phase>, plan: &Plan<'_>)
     ensures seats { map (seat_over (model plan.now).cells) (seated_in seats.new) ≡ listed (seat_of (meaning_of R.Rule) (model plan.now)) (model plan.now).agents }
     ensures fresh { busiest (seated_in seats.new) ≡ 0 }
@@ -62,14 +63,15 @@ impl<S: CellStore, R: Rule> Rig<S, R> {
         self.standoff = standoff;
     }
 
-    // A rig is blank while it has no cells: each load gives it some.
+    // Blank is defined as having no cells, and each load gives some; so 0 stands here for no load.
     pub(crate) fn is_blank(&self) -> bool
         ensures value { result ≡ is_blank (rig_of self.now) }
     {
         self.cells == 0
     }
 
-    // Loads a blank rig from a plan file, over a store whose cells are all empty.
+    // Loads a blank rig from a plan file, over a store whose cells are all empty. `load_standoff` has the same steps, but
+    // checks other things in between, and makes its seats of sizes alone.
     pub fn load(&mut self, file: &[u8]) -> Result<(), Refusal>
         ensures value { result ≡ load_answer (meaning_of R.Rule) (world S.marks self.old) file.now }
         ensures after { world S.marks self.new ≡ after_load (meaning_of R.Rule) (world S.marks self.old) file.now }

@@ -73,10 +73,9 @@ fn act<S: CellStore, R: Rule>(
     Ok(())
 }
 
-// A call that is heard is counted, so each function here asks that one is left to hear: a count that stopped at the most
-// would not be the definitions' sum.
 impl<S: CellStore, R: Rule> Rig<S, R> {
-    // Counts a call that was refused for the section of agent k.
+    // Counts a call that was refused for the section of agent k. Only while a call is left to hear, since figures have no
+    // limit of their own.
     fn turn_away(&mut self, k: usize)
         requires { self.old.heard < 1000000 }
         ensures after { world S.marks self.new ≡ away (world S.marks self.old) k }
@@ -96,7 +95,8 @@ impl<S: CellStore, R: Rule> Rig<S, R> {
         self.crowd = self.asking().max(self.crowd);
     }
 
-    // Carries out a call that is heard and that the agent's section allows.
+    // Carries out a call that is heard and that the agent's section allows. Only while a call is left to hear, as
+    // `turn_away`.
     fn carry_out(&mut self, event: Event) -> Result<(), Refusal>
         requires { self.old.heard < 1000000 }
         ensures value { result ≡ granted (meaning_of R.Rule) (world S.marks self.old) event }
@@ -115,7 +115,8 @@ impl<S: CellStore, R: Rule> Rig<S, R> {
         Ok(())
     }
 
-    // What comes of a call that is heard: by its check it is carried out, or counted as refused.
+    // What comes of a call that is heard: by its check it is carried out, or counted as refused. Only while a call is
+    // left to hear, as `turn_away`.
     pub(crate) fn hear(&mut self, event: Event, checked: Result<(), Refusal>) -> Result<(), Refusal>
         requires { self.old.heard < 1000000 }
         ensures value { result ≡ (checked then granted (meaning_of R.Rule) (world S.marks self.old) event) }

@@ -32,7 +32,7 @@ impl<S: CellStore, R: Rule> Rig<S, R> {
         })
     }
 
-    // The section of agent k, and idle where there is none.
+    // The section of agent k; as in the model, who is not there is idle.
     pub(crate) fn section_or_idle(&self, k: usize) -> Section
         ensures value { result ≡ section_at (rig_of self.now) k }
     {
@@ -45,11 +45,10 @@ impl<S: CellStore, R: Rule> Rig<S, R> {
     pub fn holder(&self) -> Option<usize>
         ensures value { result ≡ holder (rig_of self.now) }
     {
-        let before = self.seats.first_holding()?;
-        Some(before + 1)
+        self.seats.first_holding().map(|before| before + 1)
     }
 
-    // How many agents ask.
+    // How many agents ask: at most 16, so it fits.
     pub(crate) fn asking(&self) -> u8
         ensures value { result ≡ asking_now (rig_of self.now) }
     {

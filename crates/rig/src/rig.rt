@@ -5,9 +5,9 @@ ghost use Rattle.rig.specs.Bounds.{busiest};
 use crate::seats::Seats;
 use rules::Rule;
 
-// Whatever changes a rig leaves the store's lender as it was, and says so: a store may be lent.
 // The store and the rule; the number of cells, 0 while the rig is blank; the agents; how many calls were heard, and the
 // most agents asking after any one of them; on a stand-off, how many agents move together.
+// Whatever changes a rig leaves the store's lender as it was, and says so: the store may work on lent memory.
 pub struct Rig<S, R: Rule> {
     pub(crate) store: S,
     pub(crate) rule: R,

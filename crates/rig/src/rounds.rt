@@ -47,7 +47,8 @@ impl<S: CellStore, R: Rule> Rig<S, R> {
         Ok(())
     }
 
-    // A round is heard agent by agent, and each call has what the check of all said.
+    // A round is heard agent by agent, and each call has what the check of all said. Only while that many
+    // calls are left to hear, since figures have no limit of their own.
     fn hear_all(&mut self, round: Round, together: usize, checked: Result<(), Refusal>)
         requires { self.old.heard + together ≤ 1000000 }
         ensures after { world S.marks self.new ≡ in_turn (λ v k. after_check checked (moved (meaning_of R.Rule) v (given round k)) (turned_away (meaning_of R.Rule) v (given round k))) (world S.marks self.old) together }
@@ -70,7 +71,9 @@ impl<S: CellStore, R: Rule> Rig<S, R> {
         checked
     }
 
-    // The project asks for each kind of round by a name of its own too.
+    // Users ask for each kind of round by a name of its own too.
+
+    // All agents that move together begin to ask.
     pub fn request_round(&mut self) -> Result<(), Refusal>
         ensures value { result ≡ round_answer (world S.marks self.old) Request }
         ensures after { world S.marks self.new ≡ after_round (meaning_of R.Rule) (world S.marks self.old) Request }
@@ -79,6 +82,7 @@ impl<S: CellStore, R: Rule> Rig<S, R> {
         self.round(Round::Request)
     }
 
+    // All agents that move together take one step.
     pub fn step_round(&mut self) -> Result<(), Refusal>
         ensures value { result ≡ round_answer (world S.marks self.old) Step }
         ensures after { world S.marks self.new ≡ after_round (meaning_of R.Rule) (world S.marks self.old) Step }
@@ -87,6 +91,7 @@ impl<S: CellStore, R: Rule> Rig<S, R> {
         self.round(Round::Step)
     }
 
+    // All agents that move together begin to leave.
     pub fn leave_round(&mut self) -> Result<(), Refusal>
         ensures value { result ≡ round_answer (world S.marks self.old) Leave }
         ensures after { world S.marks self.new ≡ after_round (meaning_of R.Rule) (world S.marks self.old) Leave }

@@ -39,7 +39,8 @@ impl Outcome {
 }
 
 impl<P: Copy> Seat<P> {
-    // The store's name for a local name, over `cells` cells; 0 where there is none.
+    // The store's name for a local name, over `cells` cells; 0 where there is none. A store has no name 0, so it
+    // refuses it.
     pub fn entry(&self, name: usize, cells: usize) -> usize
         ensures value { result ≡ entry (seat_over cells self.now) name }
     {

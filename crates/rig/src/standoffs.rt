@@ -14,7 +14,6 @@ use crate::seat::Seat;
 use crate::seats::Seats;
 use cells::CellStore;
 use numbers::factors::smallest_common_factor;
-use numbers::names::is_within;
 use numbers::sizes::Sizes;
 use refusal::Refusal;
 use rules::Rule;
@@ -32,7 +31,7 @@ struct Turning {
 
 impl Turning {
     // The cell that an agent calls by a local name: for those that move together, after the last cell comes the first;
-    // the others call each cell as the store does.
+    // the others call each cell as the store does. Names are at most 64, so they fit.
     fn entry(&self, agent: usize, name: usize) -> u8
         requires first { 1 ≤ agent }
         requires last { agent ≤ 16 }
@@ -55,7 +54,7 @@ impl Turning {
         array::from_fn(|before| self.entry(agent, before + 1))
     }
 
-    // An agent whose identity is its number.
+    // An agent whose identity is its number: at most 16, so it fits.
     fn seat<R: Rule>(&self, agent: usize) -> Seat<R::Phase>
         requires first { 1 ≤ agent }
         requires last { agent ≤ 16 }
@@ -86,10 +85,10 @@ impl<S: CellStore, R: Rule> Rig<S, R> {
             return Err(Refusal::NotBlank);
         }
         let Sizes { agents, cells } = sizes;
-        if !is_within(2, 16, agents) {
+        if !(2..=16).contains(&agents) {
             return Err(Refusal::StandoffAgents);
         }
-        if !is_within(2, 64, cells) {
+        if !(2..=64).contains(&cells) {
             return Err(Refusal::StandoffCells);
         }
         let Some(together) = smallest_common_factor(sizes) else {

@@ -8,6 +8,7 @@ use trials::trial_text;
 
 fn main(rt: HostRuntime) -> anyhow::Result<()> {
     let names = fs::read_to_string(&rt, "names.txt")?;
+    // A loop: each turn prints, and the first that fails ends the program.
     for name in names.lines() {
         let path = format!(in rt.alloc(); "{name}.plan")?;
         let file = fs::read(&rt, path)?;

@@ -28,6 +28,7 @@ fn tell(rt: &HostRuntime, name: &str) -> anyhow::Result<()> {
 
 fn run(rt: &HostRuntime) -> anyhow::Result<()> {
     let names = fs::read_to_string(rt, "names.txt")?;
+    // A loop: each turn prints, and the first that fails ends the program.
     for name in names.lines() {
         tell(rt, name)?;
     }

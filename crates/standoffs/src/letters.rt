@@ -10,6 +10,7 @@ use std::alloc::{AllocError, Global};
 pub fn rounds_of(heap: Global, word: &str) -> Result<Option<Vec<Round>>, AllocError>
     ensures value { IfOk result (λ o. option_map vec_items o ≡ rounds_of word.now) }
 {
+    // A loop: what `collect` into an Option or a Result says of failing is not enough.
     let letters = word.as_bytes();
     let mut rounds = Vec::new(heap);
     for letter in letters {

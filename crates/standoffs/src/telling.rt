@@ -112,6 +112,7 @@ impl Standoff {
             sizes: self.sizes,
             rounds: self.rounds.as_slice(),
         };
+        // Each arm is a rule of another type.
         match self.rule {
             PublishedRule::ReadWrite => run_standoff_report(heap, ReadWrite, &script),
             PublishedRule::Majority => run_standoff_report(heap, Majority, &script),

@@ -33,7 +33,7 @@ fn run(rt: &HostRuntime) -> anyhow::Result<()> {
     Ok(())
 }
 
-// The five lines of `standoff`, too: a function for both would need a crate of its own, and say no less.
+// `standoff` has the same lines; a shared function would need a crate of its own and be no shorter.
 fn main(rt: HostRuntime) -> ExitCode {
     let Err(error) = run(&rt) else {
         return ExitCode::SUCCESS;

@@ -15,7 +15,9 @@ use rule_read_write::ReadWrite;
 use std::alloc::{AllocError, Global};
 
 // Runs the plan and writes the report into the buffer, or answers why the plan is refused; an error where memory for
-// the agents is wanting. A buffer of MAX_REPORT bytes is always long enough. Under none of the three rules do two agents ever hold together.
+// the agents is wanting. A buffer of MAX_REPORT bytes is always long enough. Under none of the three rules do two agents
+// ever hold together.
+// A Result in a Result: a refusal is an answer, want of memory is not.
 pub fn trial_report(
     heap: Global,
     file: &[u8],
@@ -31,6 +33,7 @@ pub fn trial_report(
     ensures no_two_holders_by_ladder { NoTwoHolders by_ladder }
 {
     let _ = exclusive_rules();
+    // Each arm is a rule of another type.
     match rule_asked(file) {
         PublishedRule::ReadWrite => Ok(report_run(ReadWrite, Seats::new(heap)?, file, buffer)),
         PublishedRule::Majority => Ok(report_run(Majority, Seats::new(heap)?, file, buffer)),

@@ -7,15 +7,15 @@ ghost use Rattle.worked.specs.Worked.{verdicts, WorkedExamples};
 
 use refusal::Refusal;
 
-// What every file is answered whose header is good up to its number of cells: some agents over some cells. It passes the
-// checks of its header, or it is refused so. Fields and no table: the theorem has a sentence of its own for each name.
+// How the checks of a header end, for some numbers of agents over some numbers of cells, where all that stands before the
+// number of cells is good. Fields and no table: the theorem has a sentence of its own for each name.
 pub struct CellCounts {
     pub three_over_five: Result<(), Refusal>,
     pub three_over_twenty_five: Result<(), Refusal>,
     pub three_over_four: Result<(), Refusal>,
     pub three_over_nine: Result<(), Refusal>,
     pub five_over_twenty_five: Result<(), Refusal>,
-    // with any good number of agents
+    // With any good number of agents.
     pub over_one: Result<(), Refusal>,
     pub over_sixty_five: Result<(), Refusal>,
 }

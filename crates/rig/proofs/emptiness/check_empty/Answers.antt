@@ -1,30 +1,29 @@
-use Rattle.std.proofs.Common.{◌≡◌, true, false, length, sym, ◌∙◌, arith}
-use Rattle.numbers.proofs.FirstLaws.{none_push}
-use Rattle.rig.proofs.EmptyLaws.{taken, seen_taken, first_taken, all_empty}
-use Rattle.rig.proofs.ServiceLaws.{read_gave}
+use Rattle.std.proofs.Common.{◌≡◌, length, rules, tests, sym, ap, ◌∙◌, arith}
+use Rattle.numbers.specs.First.{first_of}
+use Rattle.numbers.proofs.SearchLaws.{find_inclusive}
+use Rattle.refusal.specs.Checks.{refuse_at}
+use Rattle.refusal.specs.declared.Refusal.TheVariants.{CellTaken}
+use Rattle.rig.proofs.EmptyLaws.{differs, searched}
+use Rattle.rig.proofs.emptiness.check_empty.Given as given
 use Rattle.rig.proofs.emptiness.check_empty.Goals as goal
+use Rattle.rig.proofs.emptiness.check_empty.Goals.{After-find}
 
-pub returns-then-ne : goal.returns-then-ne
-returns-then-ne g c =
+-- the first cell that is not read as empty
+found : (g : given.Over) (c : After-find g) → c.find.result ≡ first_of (differs (g.S.CellStore.marks c.args.store.now)) 1 c.args.cells
+found g c =
     let ms = g.S.CellStore.marks c.args.store.now in
-    let y = c.loop-name.name in
-    let r = read_gave ms y c.in_ok-read.field-0 c.in_ok-read.ensures.value in
-    let long : length ms ≡ c.args.cells = sym c.count.ensures.value ∙ c.if-count-cells.false in
-    let here : taken ms y ≡ true = seen_taken ms y _ r.1 ∙ sym c.if-ne.ensures in
-    record { value = sym (first_taken ms c.args.cells y long (omega arith) (omega arith) here c.loop-name.invariant) }
+    let m = c.args.cells in
+    find_inclusive (differs ms) c.new.result _ _ c.find.result 1 m m c.find.ensures.ran c.new.ensures.start c.new.ensures.end c.new.ensures.exhausted (omega arith) (λ x y q k. search (rules, tests))
 
-pub returns-else-count-cells : goal.returns-else-count-cells
-returns-else-count-cells g c =
-    let ms = g.S.CellStore.marks c.args.store.now in
-    let long : length ms ≡ c.args.cells = sym c.count.ensures.value ∙ c.if-count-cells.false in
-    record { value = sym (all_empty ms c.args.cells long (λ k a b. c.loop-name.invariant k a (omega arith))) }
+long : (g : given.Over) (c : After-find g) → length (g.S.CellStore.marks c.args.store.now) ≡ c.args.cells
+long g c = sym c.count.ensures.value ∙ c.if-count-cells.false
 
-pub returns-else-ne : goal.returns-else-ne
-returns-else-ne g c =
-    let ms = g.S.CellStore.marks c.args.store.now in
-    let y = c.loop-name.name in
-    let r = read_gave ms y c.in_ok-read.field-0 c.in_ok-read.ensures.value in
-    let long : length ms ≡ c.args.cells = sym c.count.ensures.value ∙ c.if-count-cells.false in
-    let here : taken ms y ≡ false = seen_taken ms y _ r.1 ∙ sym c.if-ne.ensures in
-    let none = none_push (taken ms) 1 y here c.loop-name.invariant in
-    record { value = sym (all_empty ms c.args.cells long (λ k a b. none k a (omega arith))) }
+pub returns-in-Some : goal.returns-in-Some
+returns-in-Some g c =
+    let d = (goal.at.returns-in-Some g c).After-find in
+    record { value = ap (refuse_at CellTaken) (sym c.in-Some.is ∙ found g d) ∙ searched _ _ (long g d) }
+
+pub returns-in-None : goal.returns-in-None
+returns-in-None g c =
+    let d = (goal.at.returns-in-None g c).After-find in
+    record { value = ap (refuse_at CellTaken) (sym c.in-None.is ∙ found g d) ∙ searched _ _ (long g d) }

@@ -1,5 +1,4 @@
-use Rattle.std.proofs.Common.{◌≡◌, Err, is_some, rules, tests, sym, ap, ◌∙◌}
-use Rattle.numbers.specs.First.{first_of}
+use Rattle.std.proofs.Common.{Err, rules, tests, sym, ap, ◌∙◌}
 use Rattle.numbers.proofs.SearchLaws.{any_inclusive}
 use Rattle.refusal.specs.Checks.{refuse_if}
 use Rattle.model.specs.Rounds.{refusal_of, may_not}
