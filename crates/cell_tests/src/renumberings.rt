@@ -1,10 +1,9 @@
 // Rows that set a renumbering, refused ones, and piles of renumberings.
-use crate::stores::verdict;
 use cells::{CellStore, Mark};
 use mark_table::MarkTable;
 use renumbered::{Renumbered, flattened};
 use std::test::Fail;
-use test_checks::check_eq;
+use test_checks::{check_eq, verdict};
 
 #[test]
 fn rows() -> Result<(), Fail> {

@@ -2,18 +2,9 @@
 use cells::{CellStore, Mark};
 use mark_table::MarkTable;
 use record_file::RecordFile;
-use refusal::Refusal;
 use renumbered::Renumbered;
 use std::test::Fail;
-use test_checks::check_eq;
-
-// An answer, with a refusal given by its number and both its places.
-pub fn verdict<T: Drop>(answer: Result<T, Refusal>) -> Result<T, (u8, usize, usize)> {
-    answer.map_err(|refusal| {
-        let (first, second) = refusal.places();
-        (refusal.number(), first, second)
-    })
-}
+use test_checks::{check_eq, verdict};
 
 // Names 0 and count + 1 are refused by every call, names 1 and count by none.
 fn names_are<S: CellStore>(store: &mut S, count: usize, past: usize) -> Result<(), Fail> {

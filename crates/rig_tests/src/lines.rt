@@ -4,10 +4,9 @@ use cells::Mark;
 use model::Round;
 use numbers::sizes::Sizes;
 use plan::Event;
-use refusal::Refusal;
 use rules::{Rule, Section};
 use std::test::Fail;
-use test_checks::check_eq;
+use test_checks::{check_eq, verdict};
 
 // A call of a rig, or a question. Calls and lines are data: a test is a table of them, and not a chain of code.
 #[derive(Clone, Copy)]
@@ -30,8 +29,8 @@ pub enum Call {
     Cell(usize),
 }
 
-// Accepted, or the number and the first place of a refusal.
-pub type Verdict = Result<(), (u8, usize)>;
+// Accepted, or the number and both places of a refusal.
+pub type Verdict = Result<(), (u8, usize, usize)>;
 
 // An agent's steps, entries and refusals, and the calls that were heard. Not `model::Figures`: a line tells these four
 // counts, and the crowd has its own.
@@ -57,13 +56,6 @@ pub enum Line {
     Sizes(usize, usize, u8),
 }
 
-fn verdict<T: Drop>(answer: Result<T, Refusal>) -> Verdict {
-    match answer {
-        Ok(_) => Ok(()),
-        Err(refusal) => Err((refusal.number(), refusal.places().0)),
-    }
-}
-
 fn answer(rig: &mut Plain, call: Call) -> Verdict {
     match call {
         Call::Plan => verdict(rig.load(&TWO_OVER_THREE)),
@@ -77,9 +69,9 @@ fn answer(rig: &mut Plain, call: Call) -> Verdict {
         Call::RequestRound => verdict(rig.request_round()),
         Call::StepRound => verdict(rig.step_round()),
         Call::LeaveRound => verdict(rig.leave_round()),
-        Call::Section(agent) => verdict(rig.section(agent)),
-        Call::Figures(agent) => verdict(rig.figures(agent)),
-        Call::Cell(name) => verdict(rig.cell(name)),
+        Call::Section(agent) => verdict(rig.section(agent)).map(|_| ()),
+        Call::Figures(agent) => verdict(rig.figures(agent)).map(|_| ()),
+        Call::Cell(name) => verdict(rig.cell(name)).map(|_| ()),
     }
 }
 

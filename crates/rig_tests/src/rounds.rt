@@ -11,11 +11,11 @@ use std::test::Fail;
 // A refused round names agent 1, and is counted for the two agents that move and for no other.
 const REFUSED_ROUNDS: &[Line] = &[
     Line::Gives(Call::Standoff(4, 6), Ok(())),
-    Line::Gives(Call::Request(0), Err((12, 0))),
-    Line::Gives(Call::Step(5), Err((12, 5))),
-    Line::Gives(Call::Request(4), Err((23, 0))),
-    Line::Gives(Call::Step(1), Err((23, 0))),
-    Line::Gives(Call::Leave(2), Err((23, 0))),
+    Line::Gives(Call::Request(0), Err((12, 0, 0))),
+    Line::Gives(Call::Step(5), Err((12, 5, 0))),
+    Line::Gives(Call::Request(4), Err((23, 0, 0))),
+    Line::Gives(Call::Step(1), Err((23, 0, 0))),
+    Line::Gives(Call::Leave(2), Err((23, 0, 0))),
     Line::Figures(
         1,
         Counts {
@@ -25,8 +25,8 @@ const REFUSED_ROUNDS: &[Line] = &[
             heard: 0,
         },
     ),
-    Line::Gives(Call::StepRound, Err((15, 1))),
-    Line::Gives(Call::LeaveRound, Err((14, 1))),
+    Line::Gives(Call::StepRound, Err((15, 1, 0))),
+    Line::Gives(Call::LeaveRound, Err((14, 1, 0))),
     Line::Figures(
         1,
         Counts {
@@ -37,7 +37,7 @@ const REFUSED_ROUNDS: &[Line] = &[
         },
     ),
     Line::Gives(Call::RequestRound, Ok(())),
-    Line::Gives(Call::Round(Round::Request), Err((13, 1))),
+    Line::Gives(Call::Round(Round::Request), Err((13, 1, 0))),
     Line::Figures(
         1,
         Counts {
@@ -89,7 +89,7 @@ const FRUITLESS: &[Line] = &[
         },
     ),
     Line::Gives(Call::Round(Round::Step), Ok(())),
-    Line::Gives(Call::Round(Round::Leave), Err((14, 1))),
+    Line::Gives(Call::Round(Round::Leave), Err((14, 1, 0))),
     Line::Holder(None),
 ];
 
