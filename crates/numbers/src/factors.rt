@@ -17,7 +17,8 @@ pub fn greatest_common_divisor(a: usize, b: usize) -> usize
     x
 }
 
-// The smallest number from 2 to the number of agents that has a common factor with the number of cells. Where there is none, the cell count passes.
+// The smallest number from 2 to the number of agents that has a common factor with the number of cells.
+// Where there is none, the cell count passes.
 pub fn smallest_common_factor(sizes: Sizes) -> Option<usize>
     ensures value { result ≡ smallest_common_factor sizes.agents sizes.cells }
     ensures passes { (is_some result ≡ false) ↔ CoprimeUpTo sizes.agents sizes.cells }

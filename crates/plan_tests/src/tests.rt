@@ -3,6 +3,7 @@ use crate::files::{Edit, LOOSE, TIGHT, edited, padded, sized};
 use plan::{Event, Plan};
 use refusal::Layer;
 use std::alloc::Global;
+use std::fmt::Debug;
 use std::test::Fail;
 use test_checks::{check_eq, verdict};
 
@@ -43,24 +44,15 @@ fn sizes_give(heap: Global, cases: &[(u8, u8, Verdict)]) -> Result<(), Fail> {
     Ok(())
 }
 
-fn identities_are(plan: &Plan<'_>, cases: &[(usize, Option<u16>)]) -> Result<(), Fail> {
-    for (agent, expected) in cases {
-        check_eq(plan.identity(*agent), *expected)?;
-    }
-    Ok(())
-}
-
-// The entries at agents and local names.
-fn entries_are(plan: &Plan<'_>, cases: &[((usize, usize), Option<u8>)]) -> Result<(), Fail> {
-    for ((agent, name), expected) in cases {
-        check_eq(plan.table_entry(*agent, *name), *expected)?;
-    }
-    Ok(())
-}
-
-fn events_are(plan: &Plan<'_>, cases: &[(usize, Option<Event>)]) -> Result<(), Fail> {
-    for (index, expected) in cases {
-        check_eq(plan.event(*index), *expected)?;
+// Each argument gets its answer.
+fn answers_are<A: Copy + Drop, B: Copy + PartialEq + Debug + Drop, F: Fn(A) -> B>(
+    answer: F,
+    cases: &[(A, B)],
+) -> Result<(), Fail>
+    requires { F.IsAlwaysCallable answer }
+{
+    for (argument, expected) in cases {
+        check_eq(answer(*argument), *expected)?;
     }
     Ok(())
 }
@@ -324,8 +316,8 @@ fn events() -> Result<(), Fail> {
 fn answers() -> Result<(), Fail> {
     let plan = Plan::decode(&TIGHT, 1)?;
     check_eq((plan.rule(), plan.agents(), plan.cells()), (1, 3, 5))?;
-    identities_are(
-        &plan,
+    answers_are(
+        |agent| plan.identity(agent),
         &[
             (0, None),
             (1, Some(7)),
@@ -334,8 +326,8 @@ fn answers() -> Result<(), Fail> {
             (4, None),
         ],
     )?;
-    entries_are(
-        &plan,
+    answers_are(
+        |(agent, name)| plan.table_entry(agent, name),
         &[
             ((0, 1), None),
             ((1, 0), None),
@@ -349,9 +341,14 @@ fn answers() -> Result<(), Fail> {
             ((4, 1), None),
         ],
     )?;
+    events_of(&plan)
+}
+
+// The events of the first file, by number and in their order.
+fn events_of(plan: &Plan<'_>) -> Result<(), Fail> {
     check_eq(plan.event_count(), 3)?;
-    events_are(
-        &plan,
+    answers_are(
+        |index| plan.event(index),
         &[
             (0, None),
             (1, Some(Event::Request(1))),
@@ -360,20 +357,23 @@ fn answers() -> Result<(), Fail> {
             (4, None),
         ],
     )?;
-    events_come(&plan, &[Event::Request(1), Event::Step(3), Event::Leave(2)])
+    events_come(plan, &[Event::Request(1), Event::Step(3), Event::Leave(2)])
 }
 
 #[test]
 fn answers_from_any_order() -> Result<(), Fail> {
     let plan = Plan::decode(&LOOSE, 3)?;
     check_eq((plan.rule(), plan.agents(), plan.cells()), (3, 3, 5))?;
-    identities_are(&plan, &[(1, Some(258)), (2, Some(3)), (3, Some(772))])?;
-    entries_are(
-        &plan,
+    answers_are(
+        |agent| plan.identity(agent),
+        &[(1, Some(258)), (2, Some(3)), (3, Some(772))],
+    )?;
+    answers_are(
+        |(agent, name)| plan.table_entry(agent, name),
         &[((1, 1), Some(3)), ((2, 3), Some(1)), ((3, 5), Some(5))],
     )?;
-    events_are(
-        &plan,
+    answers_are(
+        |index| plan.event(index),
         &[
             (1, Some(Event::Step(3))),
             (2, Some(Event::Leave(2))),
