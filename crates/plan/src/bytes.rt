@@ -2,7 +2,7 @@
 ghost use Rattle.std.specs.Prelude.{◌≡◌, ◌^◌, ◌<◌};
 ghost use Rattle.plan.specs.Bytes.{byte, word};
 
-// The byte at `at`, and 0 past the end.
+// The byte at `at`. Total, as its definition is: 0 past the end.
 pub fn byte_at(file: &[u8], at: usize) -> u8
     ensures value { result ≡ byte file.now at }
 {

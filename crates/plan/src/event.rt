@@ -21,7 +21,7 @@ pub enum Kind {
 }
 
 // A byte that stands for no kind.
-#[derive(Clone, Copy)]
+#[derive(Clone, Copy, PartialEq, Eq, Debug)]
 pub struct UnknownKind {
     pub byte: u8,
 }

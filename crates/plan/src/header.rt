@@ -9,7 +9,8 @@ use refusal::{Part, Refusal};
 // No plan file is longer, in bytes.
 pub const MAX_FILE: usize = 65_535;
 
-// The header's fields. Offsets count from the file's first byte.
+// The header's fields. Offsets count from the file's first byte. The rule stays a number here and in `decode`, since any
+// lawful rule has a number of its own.
 #[derive(Clone, Copy)]
 pub struct Header {
     pub version: u8,
