@@ -1,6 +1,5 @@
 -- Events, the bytes of their kinds, and their order in a plan. Assumes nothing.
-use Rattle.std.proofs.Common.{◌≡◌, ℕ, ◌+◌, ◌≤◌, Bool, true, false, eqb, cond, ◌∷◌, drop, Some, None, Ok, IsOk, refl, ap, arith}
-use Rattle.std.proofs.lemmas.Bool.{eqb-false}
+use Rattle.std.proofs.Common.{◌≡◌, ℕ, ◌+◌, ◌≤◌, Bool, true, false, eqb, cond, ◌∷◌, drop, Some, None, Ok, ap, arith}
 use Rattle.std.specs.Option.{ok_or}
 use Rattle.plan.specs.declared.event.Event.{Event}
 use Rattle.plan.specs.declared.event.Event.TheVariants as event
@@ -23,19 +22,9 @@ by_test e kind k false false false is = let z : ◌≡◌ {A = ℕ} 0 1 = cc in 
 pub made_event : (e : UnknownKind) (kind : Kind) (n k : ℕ) → ok_or (kind_of n) e ≡ Ok kind → made kind k ≡ event_of n k
 made_event e kind n k = by_test e kind k (eqb n 1) (eqb n 2) (eqb n 3)
 
-known_by_test : (e : UnknownKind) (one two three : Bool) → (one ≡ false → two ≡ false → three ≡ false → ⊥) → IsOk (ok_or (cond one (Some Request) (cond two (Some Step) (cond three (Some Leave) None))) e)
-known_by_test e true two three some = refl
-known_by_test e false true three some = refl
-known_by_test e false false true some = refl
-known_by_test e false false false some = absurd (some refl refl refl)
-
--- 1, 2 and 3 are kinds
-pub kind_known : (e : UnknownKind) (n : ℕ) → 1 ≤ n → n ≤ 3 → IsOk (ok_or (kind_of n) e)
-kind_known e n a b = known_by_test e (eqb n 1) (eqb n 2) (eqb n 3) (λ x y z. omega (arith, eqb-false n 1 x, eqb-false n 2 y, eqb-false n 3 z))
-
 -- an event that a plan has begins what is left before it
-pub event_next : (p : Plan) (i : ℕ) (e : Event) → named (model p).events (i + 1) ≡ Some e → (i + 1 ≤ p.header.count) × (drop i (model p).events ≡ e ∷ drop (i + 1) (model p).events)
+pub event_next : (p : Plan) (i : ℕ) (e : Event) → named (model p).events (i + 1) ≡ Some e → (i + 1 ≤ p.draft.header.count) × (drop i (model p).events ≡ e ∷ drop (i + 1) (model p).events)
 event_next p i e is =
     let next = named_next (model p).events i e is in
-    let long = length_listed (event_at p.header p.file.now) p.header.count in
+    let long = length_listed (event_at p.draft.header p.draft.file.now) p.draft.header.count in
     (omega (arith, next.0, long), next.1)

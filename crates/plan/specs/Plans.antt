@@ -55,7 +55,7 @@ plan_at h f = record {
 }
 
 abbrev pub model : Plan → Sayings
-model p = plan_at p.header p.file.now
+model p = plan_at p.draft.header p.draft.file.now
 
 -- the entry at local name x of the table with name k, if both are there
 abbrev pub entry_in : Option (List ℕ) → ℕ → Option ℕ

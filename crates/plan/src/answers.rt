@@ -1,41 +1,41 @@
 // What a plan answers: numbers, names and events.
-ghost use Rattle.std.specs.Prelude.{◌≡◌, ◌^◌, ◌<◌, ◌≤◌, IsSome, length};
+ghost use Rattle.std.specs.Prelude.{◌≡◌, ◌^◌, ◌<◌, ◌≤◌, cond, Some, None, IsSome, length};
 ghost use Rattle.numbers.specs.Names.{named};
+ghost use Rattle.numbers.specs.Rows.{within};
 ghost use Rattle.plan.specs.Plans.{model, entry_named};
 
-use crate::draft::Draft;
 use crate::event::{Event, Kind};
 use crate::plan::Plan;
 use numbers::names::is_name;
 
-impl Plan<'_> {
-    fn draft(&self) -> Draft<'_>
-        ensures header { result.header ≡ self.now.header }
-        ensures file { result.file.now ≡ self.now.file.now }
-    {
-        Draft {
-            header: self.header,
-            file: self.file,
-        }
+// The number, if it is one of the names 1 to `count`, as a draft takes it.
+fn name_up_to(count: u16, number: usize) -> Option<u16>
+    ensures value { result ≡ cond (within 1 count number) (Some number) None }
+{
+    if !is_name(number, usize::from(count)) {
+        return None;
     }
+    u16::try_from(number).ok()
+}
 
+impl Plan<'_> {
     // The number of the locking rule.
     pub fn rule(&self) -> u8
         ensures value { result ≡ (model self.now).rule }
     {
-        self.header.rule
+        self.draft.header.rule
     }
 
     pub fn agents(&self) -> usize
         ensures value { result ≡ (model self.now).agents }
     {
-        usize::from(self.header.agents)
+        usize::from(self.draft.header.agents)
     }
 
     pub fn cells(&self) -> usize
         ensures value { result ≡ (model self.now).cells }
     {
-        usize::from(self.header.cells)
+        usize::from(self.draft.header.cells)
     }
 
     // The identity of an agent; agents count from 1.
@@ -43,10 +43,8 @@ impl Plan<'_> {
         ensures value { result ≡ named (model self.now).identities agent }
         ensures found { 1 ≤ agent → agent ≤ (model self.now).agents → IsSome result }
     {
-        if !is_name(agent, self.agents()) {
-            return None;
-        }
-        Some(self.draft().identity(agent))
+        let agent = name_up_to(u16::from(self.draft.header.agents), agent)?;
+        Some(self.draft.identity(agent))
     }
 
     // The store's name for an agent's local name; both count from 1.
@@ -55,17 +53,16 @@ impl Plan<'_> {
         ensures found { 1 ≤ agent → agent ≤ (model self.now).agents → 1 ≤ name → name ≤ (model self.now).cells →
             IsSome result }
     {
-        if !is_name(agent, self.agents()) || !is_name(name, self.cells()) {
-            return None;
-        }
-        Some(self.draft().entry(agent, name))
+        let agent = name_up_to(u16::from(self.draft.header.agents), agent)?;
+        let name = name_up_to(u16::from(self.draft.header.cells), name)?;
+        Some(self.draft.entry(agent, name))
     }
 
     pub fn event_count(&self) -> usize
         ensures value { result ≡ length (model self.now).events }
         ensures few { result < 2 ^ 16 }
     {
-        usize::from(self.header.count)
+        usize::from(self.draft.header.count)
     }
 
     // An event; events count from 1.
@@ -73,11 +70,8 @@ impl Plan<'_> {
         ensures value { result ≡ named (model self.now).events index }
         ensures found { 1 ≤ index → index ≤ length (model self.now).events → IsSome result }
     {
-        if !is_name(index, self.event_count()) {
-            return None;
-        }
-        let draft = self.draft();
-        let kind = Kind::try_from(draft.kind(index)).unwrap();
-        Some(Event::new(kind, usize::from(draft.agent(index))))
+        let index = name_up_to(self.draft.header.count, index)?;
+        let kind = Kind::try_from(self.draft.kind(index)).unwrap();
+        Some(Event::new(kind, usize::from(self.draft.agent(index))))
     }
 }

@@ -85,7 +85,6 @@ impl Draft<'_> {
     fn knows_event(&self, event: u16) -> bool
         ensures value { result ≡ known self.now.header self.now.file.now event }
     {
-        let event = usize::from(event);
         let agent = usize::from(self.agent(event));
         Kind::try_from(self.kind(event)).is_ok() && is_name(agent, usize::from(self.header.agents))
     }

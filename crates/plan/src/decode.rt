@@ -20,6 +20,6 @@ impl<'a> Plan<'a> {
         let header = Header::read(file)?;
         let draft = Draft { header, file };
         draft.check_all(rule)?;
-        Ok(Plan { header, file })
+        Ok(Plan { draft })
     }
 }

@@ -24,7 +24,7 @@ impl<'a> Model for Events<'a> {
 
     ghost view = { λ s. drop s.given (model s.plan).events };
 
-    ghost invariant = { λ s. s.given ≤ s.plan.header.count };
+    ghost invariant = { λ s. s.given ≤ s.plan.draft.header.count };
 }
 
 impl Iterator for Events<'_> {

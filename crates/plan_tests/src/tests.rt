@@ -45,10 +45,12 @@ fn sizes_give(heap: Global, cases: &[(u8, u8, Verdict)]) -> Result<(), Fail> {
 }
 
 // Each argument gets its answer.
-fn answers_are<A: Copy + Drop, B: Copy + PartialEq + Debug + Drop>(
-    answer: impl Fn(A) -> B,
+fn answers_are<A: Copy + Drop, B: Copy + PartialEq + Debug + Drop, F: Fn(A) -> B>(
+    answer: F,
     cases: &[(A, B)],
-) -> Result<(), Fail> {
+) -> Result<(), Fail>
+    requires { F.IsAlwaysCallable answer }
+{
     for (argument, expected) in cases {
         check_eq(answer(*argument), *expected)?;
     }

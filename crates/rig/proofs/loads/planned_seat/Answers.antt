@@ -8,6 +8,6 @@ returns g c =
     let p = c.args.plan.now in
     let R = meaning_of g.R.Rule in
     record {
-      value = seat_made R c.new_seat.result _ _ p.header.cells _ _ c.new_seat.ensures.value (identity_planned p.header p.file.now c.args.agent _ c.requires.first c.requires.last (sym c.unwrap-identity.ensures ∙ c.identity.ensures.value)) c.table_of.ensures.value;
+      value = seat_made R c.new_seat.result _ _ p.draft.header.cells _ _ c.new_seat.ensures.value (identity_planned p.draft.header p.draft.file.now c.args.agent _ c.requires.first c.requires.last (sym c.unwrap-identity.ensures ∙ c.identity.ensures.value)) c.table_of.ensures.value;
       fresh = seat_fresh _ c.new_seat.result _ _ c.new_seat.ensures.value;
     }

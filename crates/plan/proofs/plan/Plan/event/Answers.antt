@@ -1,27 +1,26 @@
-use Rattle.std.proofs.Common.{Some, IsOk, subst, arith, sym, ap, ◌∙◌}
-use Rattle.numbers.proofs.NameLaws.{length_listed, named_in, named_out}
-use Rattle.plan.proofs.EventLaws.{made_event, kind_known}
-use Rattle.numbers.proofs.RowLaws.{within_true}
+use Rattle.std.proofs.Common.{Some, sym, ap, ◌∙◌, arith}
+use Rattle.numbers.proofs.NameLaws.{length_listed}
 use Rattle.plan.specs.Plans.{kind_at, agent_at, event_at}
+use Rattle.plan.proofs.EventLaws.{made_event}
+use Rattle.plan.proofs.NumberLaws.{no_name, name_in, name_out}
 use Rattle.plan.proofs.plan.Plan.event.Goals as goal
 
-pub returns-then-not-is_name-clause-value : goal.returns-then-not-is_name-clause-value
-returns-then-not-is_name-clause-value c =
-    let p = c.args.self.now in
-    sym (named_out (event_at p.header p.file.now) p.header.count c.args.index (rw (c.event_count.ensures.value ∙ length_listed (event_at p.header p.file.now) p.header.count) at (sym c.if-not-is_name.ensures.value)))
+pub returns-in_err-index-clause-value : goal.returns-in_err-index-clause-value
+returns-in_err-index-clause-value c =
+    let d = c.args.self.now.draft in
+    c.from_residual.ensures ∙ sym (name_out (event_at d.header d.file.now) d.header.count c.args.index c.in_err-index.ensures.value)
 
-pub unwrap-kind-requires : goal.unwrap-kind-requires
-unwrap-kind-requires c =
-    let p = c.args.self.now in
-    let kind = rw (c.draft-draft.ensures.header, c.draft-draft.ensures.file) at c.kind.ensures.value in
-    let inside = within_true 1 p.header.count c.args.index (rw (c.event_count.ensures.value ∙ length_listed (event_at p.header p.file.now) p.header.count) at (sym c.if-not-is_name.ensures.value)) in
-    let known = p.known_kinds c.args.index inside.0 inside.1 in
-    subst IsOk (sym c.try_from.ensures) (kind_known _ c.kind.result (omega (arith, kind, known.0)) (omega (arith, kind, known.1)))
+pub returns-in_err-index-clause-found : goal.returns-in_err-index-clause-found
+returns-in_err-index-clause-found c =
+    let d = c.args.self.now.draft in
+    let long = length_listed (event_at d.header d.file.now) d.header.count in
+    λ a b. absurd (no_name d.header.count c.args.index c.in_err-index.ensures.value a (omega (arith, long, b)))
 
 pub returns-clause-value : goal.returns-clause-value
 returns-clause-value c =
-    let p = c.args.self.now in
-    let made = rw (c.from.ensures, c.agent.ensures.value, c.draft-draft.ensures.header, c.draft-draft.ensures.file) at c.new.ensures.value in
-    let kind = rw (c.kind.ensures.value, c.draft-draft.ensures.header, c.draft-draft.ensures.file) at (sym c.try_from.ensures ∙ c.unwrap-kind.ensures) in
-    ap Some (made ∙ made_event _ c.unwrap-kind.result (kind_at p.header p.file.now c.args.index) (agent_at p.header p.file.now c.args.index) kind)
-    ∙ sym (named_in (event_at p.header p.file.now) p.header.count c.args.index (rw (c.event_count.ensures.value ∙ length_listed (event_at p.header p.file.now) p.header.count) at (sym c.if-not-is_name.ensures.value)))
+    let d = c.args.self.now.draft in
+    let i = c.in_ok-index.index in
+    let made = rw (c.from.ensures, c.agent.ensures.value) at c.new.ensures.value in
+    let kind = rw c.kind.ensures.value at (sym c.try_from.ensures ∙ c.unwrap-kind.ensures) in
+    ap Some (made ∙ made_event _ c.unwrap-kind.result (kind_at d.header d.file.now i) (agent_at d.header d.file.now i) kind)
+    ∙ sym (name_in (event_at d.header d.file.now) d.header.count c.args.index i c.in_ok-index.ensures.value)
