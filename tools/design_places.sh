@@ -2,6 +2,7 @@
 # Counts the lines in which an older form of code may stand, by one command for each form; docs/DESIGN-PASS.md has the numbers.
 # Run at the top of a checkout; `design_places.sh -v KEY` prints the lines of one form.
 cd "$(dirname "$0")/.." || exit 1
+mapfile -t files < <(find crates -name '*.rt' -path '*/src/*' -not -path '*/out/*' | sort)
 
 forms() {
     cat <<'LIST'
@@ -28,9 +29,9 @@ LIST
 
 forms | while read -r key form; do
     if [ "${1:-}" = -v ]; then
-        [ "$key" != "${2:-}" ] || grep -nE -- "$form" crates/*/src/*.rt
+        [ "$key" != "${2:-}" ] || grep -nE -- "$form" "${files[@]}"
     else
-        printf '%-3s %4d  %s\n' "$key" "$(cat crates/*/src/*.rt | grep -cE -- "$form")" "$form"
+        printf '%-3s %4d  %s\n' "$key" "$(cat "${files[@]}" | grep -cE -- "$form")" "$form"
     fi
 done
 [ -n "${1:-}" ] || printf '8   %4d  lines in proofs/\n' "$(find crates/*/proofs -name '*.antt' -exec cat {} + | wc -l)"
