@@ -7,9 +7,7 @@ use Rattle.numbers.proofs.NameLaws.{length_listed, named_listed}
 use Rattle.numbers.proofs.Pigeonhole.{every_number, apart_both}
 use Rattle.refusal.specs.declared.Refusal.{Refusal}
 use Rattle.plan.specs.Accepted.{Between, Acceptable, Fault, event_kind, event_agent, Faithful}
-use Rattle.plan.specs.declared.header.Header.{Header}
-use Rattle.plan.specs.Checks.{header_of, header_read, all_checks, decoded, answered}
-use Rattle.plan.proofs.CheckLaws.{read_ok, decoded_after}
+use Rattle.plan.specs.Checks.{header_of, decoded, answered}
 use Rattle.plan.specs.Plans.{identity_at, entry_at, kind_at, agent_at, event_of, event_at, Sayings, plan_at, model, entry_in, entry_named}
 use Rattle.plan.specs.declared.plan.Plan.{Plan}
 use Rattle.plan.proofs.Judged.{told, accepts, refuses}
@@ -108,21 +106,6 @@ not_refused rule f good e = (
       let z : ◌≡◌ {A = ℕ} 0 1 = cc in
       absurd (omega arith),
 )
-
--- what a plan keeps of a header that passes: its numbers of agents and cells, and that its events are of known kinds
-pub record InRange (f : List ℕ) (h : Header) : Type 0 where
-  pub some_agents : 2 ≤ h.agents
-  pub few_agents : h.agents ≤ 16
-  pub some_cells : 2 ≤ h.cells
-  pub few_cells : h.cells ≤ 64
-  pub known_kinds : (i : ℕ) → 1 ≤ i → i ≤ h.count → Between 1 3 (kind_at h f i)
-
-pub passed_in_range : (rule : ℕ) (f : List ℕ) (h : Header) → Ok h ≡ header_read f → Ok tt ≡ all_checks rule h f → InRange f h
-passed_in_range rule f h read is =
-    let good = (accepted_plan rule f (plan_at h f) (decoded_after rule f h (Ok tt) read is)).0 in
-    let cells = good.0.0.0.0.0.0.1 in
-    let agents = good.0.0.0.0.0.0.0.1 in
-    subst (InRange f) (sym (read_ok f h read).1) (record { some_agents = agents.0; few_agents = agents.1; some_cells = cells.0; few_cells = cells.1; known_kinds = λ i a b. (good.1 i a b).0 })
 
 -- all that a decoder's answer says, from the equation
 pub record Judgement (rule : ℕ) (f : List ℕ) (r : Result Plan Refusal) : Type 0 where

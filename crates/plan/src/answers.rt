@@ -71,7 +71,8 @@ impl Plan<'_> {
         ensures found { 1 ≤ index → index ≤ length (model self.now).events → IsSome result }
     {
         let index = name_up_to(self.draft.header.count, index)?;
-        let kind = Kind::try_from(self.draft.kind(index)).unwrap();
+        // As in the definition, a byte that is no kind counts as a leave; no accepted plan has one.
+        let kind = Kind::try_from(self.draft.kind(index)).unwrap_or(Kind::Leave);
         Some(Event::new(kind, usize::from(self.draft.agent(index))))
     }
 }

@@ -41,18 +41,18 @@ module _ (h : Header) (file : List ℕ) (k : ℕ) (a : 1 ≤ k) (b : k ≤ h.age
   pub table_planned : (t : List ℕ) → h.cells ≤ length t → Filled (entry_at h file k) t h.cells → take h.cells t ≡ get_or (plan_at h file).tables (k - 1) []
   table_planned t long at = filled_front (entry_at h file k) t h.cells long at ∙ sym (getD_listed (λ j. listed (entry_at h file j) h.cells) h.agents k [] a b)
 
--- what a closure that stays as it is makes of the places
-pub made_each : {F B : Type 0} (g : Mut F (ℕ × Unit {0}) B) (h : ℕ → B) (f : F) (ys : List B) (i n : ℕ) (d : B) → ((x : ℕ) (y : B) (q : F) → Called g f (x, tt) y q → (q ≡ f) × (y ≡ h x)) → IsFromFnResultFrom g f ys i n → (k : ℕ) → i ≤ k → k < i + n → get_or ys k d ≡ h k
-made_each g h f ys i zero d says made k a b = absurd (omega arith)
-made_each g h f ys i (suc n) d says (q, y, at, called, rest) k a b =
-    let is = says i y q called in
+-- what a closure that stays as it is makes of the places before m
+pub made_each : {F B : Type 0} (g : Mut F (ℕ × Unit {0}) B) (h : ℕ → B) (m : ℕ) (f : F) (ys : List B) (i n : ℕ) (d : B) → ((x : ℕ) (y : B) (q : F) → x < m → Called g f (x, tt) y q → (q ≡ f) × (y ≡ h x)) → IsFromFnResultFrom g f ys i n → (k : ℕ) → i ≤ k → k < i + n → k < m → get_or ys k d ≡ h k
+made_each g h m f ys i zero d says made k a b c = absurd (omega arith)
+made_each g h m f ys i (suc n) d says (q, y, at, called, rest) k a b c =
+    let is = says i y q (omega arith) called in
     ⊎_elim
     (λ same. ap (λ j. get_or ys j d) same ∙ at.1 d ∙ is.1 ∙ sym (ap h same))
-    (λ other. made_each g h f ys (i + 1) n d says (subst (λ p. IsFromFnResultFrom g p ys (i + 1) n) is.0 rest) k (omega arith) (omega arith))
+    (λ other. made_each g h m f ys (i + 1) n d says (subst (λ p. IsFromFnResultFrom g p ys (i + 1) n) is.0 rest) k (omega arith) (omega arith) c)
     (cases_eq k i)
 
 -- so it fills a table
-pub made_filled : {F : Type 0} (g : Mut F (ℕ × Unit {0}) ℕ) (h : ℕ → ℕ) (f : F) (t : List ℕ) (n m : ℕ) → m ≤ n → length t ≡ n → ((i v : ℕ) (q : F) → Called g f (i, tt) v q → (q ≡ f) × (v ≡ h (i + 1))) → IsFromFnResultFrom g f t 0 n → Filled h t m
+pub made_filled : {F : Type 0} (g : Mut F (ℕ × Unit {0}) ℕ) (h : ℕ → ℕ) (f : F) (t : List ℕ) (n m : ℕ) → m ≤ n → length t ≡ n → ((i v : ℕ) (q : F) → i < m → Called g f (i, tt) v q → (q ≡ f) × (v ≡ h (i + 1))) → IsFromFnResultFrom g f t 0 n → Filled h t m
 made_filled g h f t n m few long says made x a b =
     let next : x - 1 + 1 ≡ x = omega arith in
-    made_each g (λ i. h (i + 1)) f t 0 n 0 says made (x - 1) (omega arith) (omega arith) ∙ ap h next
+    made_each g (λ i. h (i + 1)) m f t 0 n 0 says made (x - 1) (omega arith) (omega arith) (omega arith) ∙ ap h next

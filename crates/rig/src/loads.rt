@@ -21,16 +21,25 @@ use std::array;
 
 // An agent's table, at the front of the answer.
 fn table_of(plan: &Plan<'_>, agent: usize) -> [u8; 64]
+    requires cells { (model plan.now).cells ≤ 64 }
     requires first { 1 ≤ agent }
     requires last { agent ≤ (model plan.now).agents }
     ensures value { take (model plan.now).cells result ≡ slice_index_or (model plan.now).tables (agent - 1) [] }
 {
+    let cells = plan.cells();
     // Behind the plan's cells, where there is no entry, the room is filled with 0.
-    array::from_fn(|before| plan.table_entry(agent, before + 1).unwrap_or(0))
+    array::from_fn(|before| {
+        if before < cells {
+            plan.table_entry(agent, before + 1).unwrap_or(0)
+        } else {
+            0
+        }
+    })
 }
 
 // An agent with its identity and its table.
 fn planned_seat<R: Rule>(plan: &Plan<'_>, agent: usize) -> Seat<R::Phase>
+    requires cells { (model plan.now).cells ≤ 64 }
     requires first { 1 ≤ agent }
     requires last { agent ≤ (model plan.now).agents }
     ensures value { seat_over (model plan.now).cells result ≡ seat_of (meaning_of R.Rule) (model plan.now) agent }
@@ -43,6 +52,8 @@ fn planned_seat<R: Rule>(plan: &Plan<'_>, agent: usize) -> Seat<R::Phase>
 // Seats the agents of a plan in place of all others. What differs for a stand-off is what seats are made of, which `fill`
 // takes as a function.
 fn seat_planned<R: Rule>(seats: &mut Seats<R::Phase>, plan: &Plan<'_>)
+    requires cells { (model plan.now).cells ≤ 64 }
+    requires agents { (model plan.now).agents ≤ 16 }
     ensures seats { map (seat_over (model plan.now).cells) (seated_in seats.new) ≡ listed (seat_of (meaning_of R.Rule) (model plan.now)) (model plan.now).agents }
     ensures fresh { busiest (seated_in seats.new) ≡ 0 }
 {

@@ -51,7 +51,14 @@ impl Turning {
         requires last { agent ≤ 16 }
         ensures value { take self.now.cells result ≡ listed (λ x. (if nat_le agent self.now.together then turned self.now.together self.now.cells agent x else x)) self.now.cells }
     {
-        array::from_fn(|before| self.entry(agent, before + 1))
+        // Behind the cells that are there, the room is filled with 0.
+        array::from_fn(|before| {
+            if before < self.cells {
+                self.entry(agent, before + 1)
+            } else {
+                0
+            }
+        })
     }
 
     // An agent whose identity is its number: at most 16, so it fits.

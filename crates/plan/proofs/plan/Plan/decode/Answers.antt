@@ -4,7 +4,7 @@ use Rattle.plan.specs.Plans.{plan_at}
 use Rattle.refusal.specs.Checks.{◌then◌}
 use Rattle.plan.specs.Checks.{answered}
 use Rattle.plan.proofs.CheckLaws.{decoded_after, read_refused}
-use Rattle.plan.proofs.Faith.{accepted_plan, not_refused, passed_in_range, judgement}
+use Rattle.plan.proofs.Faith.{accepted_plan, not_refused, judgement}
 use Rattle.plan.proofs.plan.Plan.decode.Goals as goal
 
 pub returns-in_err-header : goal.returns-in_err-header
@@ -40,8 +40,3 @@ returns c =
     in
     let told = accepted_plan c.args.rule f (plan_at h f) is in
     record { value = is; accepted = (λ _. told.0, λ _. refl); refused = not_refused c.args.rule f told.0; faithful = told.1 }
-
-pub invariant_of-result : goal.invariant_of-result
-invariant_of-result c =
-    let h = passed_in_range c.args.rule c.args.file.now c.in_ok-header.header c.in_ok-header.ensures.value (sym c.in_ok-check_all.was ∙ c.check_all.ensures.value) in
-    record { some_agents = h.some_agents; few_agents = h.few_agents; some_cells = h.some_cells; few_cells = h.few_cells; known_kinds = h.known_kinds }

@@ -10,4 +10,4 @@ returns c =
     let f : ℕ → ℕ = λ x. cond (leb c.args.agent z.together) (turned z.together z.cells c.args.agent x) x in
     let long = c.from_fn.ensures.items.long in
     let few : z.cells ≤ 64 = z.most in
-    record { value = filled_front f t z.cells (omega (arith, long, few)) (made_filled _ f _ t 64 z.cells few long (λ i v q k. search rules) c.from_fn.ensures.items.each) }
+    record { value = filled_front f t z.cells (omega (arith, long, few)) (made_filled _ f _ t 64 z.cells few long (λ i v q b k. search rules) c.from_fn.ensures.items.each) }
