@@ -92,12 +92,15 @@ impl Draft<'_> {
     fn check_events(&self) -> Result<(), Refusal>
         ensures value { result ≡ events_check self.now.header self.now.file.now }
     {
-        match (1..=self.header.count).find(|event| !self.knows_event(*event)) {
-            Some(event) => Err(Refusal::BadEvent {
-                event: usize::from(event),
-            }),
-            None => Ok(()),
+        // A loop: of `find` over an inclusive range the compiler makes twice as much work for each event.
+        for event in 1..=self.header.count {
+            if !self.knows_event(event) {
+                return Err(Refusal::BadEvent {
+                    event: usize::from(event),
+                });
+            }
         }
+        Ok(())
     }
 
     pub fn check_all(&self, rule: u8) -> Result<(), Refusal>
