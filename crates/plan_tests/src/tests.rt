@@ -381,3 +381,34 @@ fn answers_from_any_order() -> Result<(), Fail> {
         ],
     )
 }
+
+// A plan beside bytes that are lent to be changed.
+#[derive(Drop)]
+struct Desk<'a> {
+    plan: Plan<'a>,
+    page: &'a mut [u8],
+}
+
+// Hands a desk on. Were there a ghost field in `Plan`, the checker would refuse this `Option`.
+fn kept<'a>(desk: Desk<'a>) -> Option<Desk<'a>> {
+    Some(desk)
+}
+
+// The rule of the first file goes on a page that lies beside its plan.
+fn rule_on_page(plan: Plan<'_>) -> Result<(), Fail> {
+    let mut page = [7, 9];
+    let desk = Desk {
+        plan,
+        page: &mut page,
+    };
+    if let Some(Desk { plan, page }) = kept(desk) {
+        page.fill(plan.rule());
+    }
+    check_eq(page, [1, 1])
+}
+
+#[test]
+fn a_plan_beside_lent_bytes() -> Result<(), Fail> {
+    let plan = Plan::decode(&TIGHT, 1)?;
+    rule_on_page(plan)
+}
