@@ -1,4 +1,4 @@
-use Rattle.std.proofs.Common.{◌<◌, ◌^◌, sym, subst, arith}
+use Rattle.std.proofs.Common.{arith}
 use Rattle.report.proofs.LengthLaws.{refusal_short}
 use Rattle.report.proofs.sheet.Sheet.refusal_line.Goals as goal
 
