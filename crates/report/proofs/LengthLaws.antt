@@ -2,6 +2,9 @@
 use Rattle.std.proofs.Common.{◌≡◌, ℕ, zero, suc, ◌+◌, ◌-◌, ◌*◌, ◌^◌, ◌<◌, ◌≤◌, List, ◌++◌, length, codes, decimal, Ok, Err, Result, Option, mul-suc, refl, ap, ◌∙◌, subst, arith}
 use Rattle.std.proofs.lemmas.Fmt.{length-decimal-le}
 use Rattle.std.proofs.lemmas.List.{length-append}
+use Rattle.refusal.specs.Refusals.{layer_word, layer_of, number_of, first_place, second_place, refusal_line}
+use Rattle.refusal.specs.declared.Layer.{Layer}
+use Rattle.refusal.specs.declared.Layer.TheVariants.{File, Plan, Store, Rig as RigLayer, Report}
 use Rattle.refusal.specs.declared.Refusal.{Refusal}
 use Rattle.cells.specs.Marks.{mark_words}
 use Rattle.cells.specs.declared.mark.Mark.{Mark}
@@ -13,7 +16,7 @@ use Rattle.model.specs.Rigs.{section_answer, figures_answer}
 use Rattle.model.specs.declared.Figures.{Figures}
 use Rattle.rig.specs.Worlds.{rig_of}
 use Rattle.rig.specs.declared.rig.Rig.{Rig}
-use Rattle.report.specs.Lines.{section_word, holder_number, counted, sizes_line, agent_line, cell_line, last_line}
+use Rattle.report.specs.Lines.{line_end, section_word, holder_number, counted, sizes_line, agent_line, cell_line, last_line}
 use Rattle.report.specs.Reports.{lines, agent_told, agent_lines}
 use Rattle.report.proofs.BoundLaws.{Small, figures_small}
 use Rattle.report.proofs.LineLaws.{lines_more}
@@ -30,6 +33,9 @@ five_digits n h = length-decimal-le 5 n (omega arith) (omega arith) (omega arith
 
 seven_digits : (n : ℕ) → n ≤ 1000000 → length (decimal n) ≤ 7
 seven_digits n h = length-decimal-le 7 n (omega arith) (omega arith) (omega arith)
+
+place_digits : (n : ℕ) → n < 2 ^ 64 → length (decimal n) ≤ 20
+place_digits n h = length-decimal-le 20 n (omega arith) (omega arith) (omega arith)
 
 -- the words of a mark
 pub owner_short : (i : ℕ) → i < 2 ^ 16 → length (mark_words (Owner i)) ≤ 11
@@ -53,6 +59,19 @@ cell_short y k p q = omega (arith, length-append {A = ℕ}, two_digits y p, q)
 
 pub last_short : (crowd : ℕ) (holder : Option ℕ) → crowd < 2 ^ 8 → holder_number holder < 100 → length (last_line crowd holder) ≤ 20
 last_short crowd holder p q = omega (arith, length-append {A = ℕ}, three_digits crowd p, two_digits (holder_number holder) q)
+
+layer_short : (l : Layer) → length (layer_word l) ≤ 6
+layer_short File = omega arith
+layer_short Plan = omega arith
+layer_short Store = omega arith
+layer_short RigLayer = omega arith
+layer_short Report = omega arith
+
+described_short : (n : ℕ) (l : Layer) (a b : ℕ) → n < 2 ^ 8 → a < 2 ^ 64 → b < 2 ^ 64 → length (codes "refused " ++ (decimal n ++ (codes " " ++ (layer_word l ++ (codes " place " ++ (decimal a ++ (codes " " ++ decimal b))))))) ≤ 66
+described_short n l a b p q r = omega (arith, length-append {A = ℕ}, three_digits n p, layer_short l, place_digits a q, place_digits b r)
+
+pub refusal_short : (e : Refusal) → number_of e < 2 ^ 8 → first_place e < 2 ^ 64 → second_place e < 2 ^ 64 → length (refusal_line e ++ line_end) ≤ 67
+refusal_short e p q r = omega (arith, length-append (refusal_line e) line_end, described_short (number_of e) (layer_of e) (first_place e) (second_place e) p q r)
 
 figure_short : (label : List ℕ) (n : ℕ) → n ≤ 1000000 → length (counted label n) ≤ length label + 7
 figure_short label n few = omega (arith, length-append label (decimal n), seven_digits n few)

@@ -1,13 +1,15 @@
 // The lines of a report, each put after what is written on a sheet.
 ghost use Rattle.std.specs.Prelude.{◌≡◌, ◌<◌, ◌≤◌, ◌++◌, length};
+ghost use Rattle.refusal.specs.Refusals.{layer_word, refusal_line};
 ghost use Rattle.cells.specs.Marks.{mark_words};
-ghost use Rattle.report.specs.Lines.{sizes_line, agent_line, cell_line, last_line};
+ghost use Rattle.report.specs.Lines.{line_end, sizes_line, agent_line, cell_line, last_line};
 ghost use Rattle.report.specs.Sheets.{Puts};
 
 use crate::sheet::Sheet;
 use cells::Mark;
 use itoa::Integer;
 use model::Figures;
+use refusal::{Layer, Refusal};
 use rules::Section;
 
 // Piece by piece and not by `write!`: what `write!` writes is promised only where it answers Ok, and nothing promises that
@@ -73,6 +75,33 @@ impl Sheet {
     {
         self.labelled("crowd ", crowd);
         self.labelled(" holder ", holder.unwrap_or(0));
+        self.text("\n");
+    }
+
+    // Where a refusal comes from.
+    fn layer(&mut self, layer: Layer)
+        ensures after { Puts self.old (layer_word layer) self.new }
+    {
+        match layer {
+            Layer::File => self.text("file"),
+            Layer::Plan => self.text("plan"),
+            Layer::Store => self.text("store"),
+            Layer::Rig => self.text("rig"),
+            Layer::Report => self.text("report"),
+        }
+    }
+
+    // The number, the layer and both places of a refusal.
+    pub(crate) fn refusal_line(&mut self, refusal: Refusal)
+        ensures after { Puts self.old (refusal_line refusal ++ line_end) self.new }
+        ensures short { length (refusal_line refusal ++ line_end) ≤ 67 }
+    {
+        let (first, second) = refusal.places();
+        self.labelled("refused ", refusal.number());
+        self.text(" ");
+        self.layer(refusal.layer());
+        self.labelled(" place ", first);
+        self.labelled(" ", second);
         self.text("\n");
     }
 }

@@ -9,5 +9,5 @@ mod trial;
 
 pub use report::MAX_REPORT;
 pub use run::report_run;
-pub use shown::trial_text;
+pub use shown::{show_trial, trial_text};
 pub use trial::trial_report;
