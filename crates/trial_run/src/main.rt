@@ -9,15 +9,16 @@ use std::env;
 use std::fs::File;
 use std::io::Read;
 use std::process::ExitCode;
-use trials::trial_text;
+use trials::{MAX_REPORT, show_trial};
 use words::{Asked, HELP, VERSION};
 
-fn show_trial(rt: &HostRuntime, source: impl Read + Drop) -> anyhow::Result<()> {
+fn run_plan(rt: &HostRuntime, source: impl Read + Drop) -> anyhow::Result<()> {
     let mut file = Vec::new(rt.alloc());
     // One byte more than the longest plan file is enough to see that a file is too long.
     source.take(MAX_FILE as u64 + 1).read_to_end(&mut file)?;
-    let text = trial_text(rt.alloc(), &file)?;
-    rt.stdout().write_all(&text)?;
+    let mut buffer = [0; MAX_REPORT];
+    let length = show_trial(rt.alloc(), &file, &mut buffer)?;
+    rt.stdout().write_all(&buffer[..length])?;
     Ok(())
 }
 
@@ -27,8 +28,8 @@ fn run(rt: &HostRuntime) -> anyhow::Result<()> {
     match Asked::by(rt.alloc(), &mut words)? {
         Asked::Help => rt.print(HELP)?,
         Asked::Version => rt.print(VERSION)?,
-        Asked::Input => show_trial(rt, rt.stdin())?,
-        Asked::File(name) => show_trial(rt, File::open(rt, name)?)?,
+        Asked::Input => run_plan(rt, rt.stdin())?,
+        Asked::File(name) => run_plan(rt, File::open(rt, name)?)?,
     }
     Ok(())
 }
