@@ -10,7 +10,6 @@ use cells::CellStore;
 use mark_table::MarkTable;
 use record_file::RecordFile;
 use renumbered::Renumbered;
-use std::alloc::Global;
 use std::io::Read;
 use steps::STEPS;
 
@@ -47,22 +46,22 @@ fn agreeing<S: CellStore, T: CellStore>(one: &S, other: &T) -> usize {
 }
 
 // The names backwards: the first is the last below.
-fn turned<S: CellStore + Drop>(heap: Global, store: S) -> anyhow::Result<Renumbered<S>> {
-    let row: Vec<usize> = (1..=store.count()).rev().collect(heap)?;
-    Renumbered::with_row(store, row.as_slice()).map_err(|refusal| anyhow!(
-        "the names backwards: {refusal}"
-    ))
+fn turned<S: CellStore + Drop>(store: S, row: &[usize]) -> anyhow::Result<Renumbered<S>> {
+    Renumbered::with_row(store, row).map_err(|refusal| anyhow!("the names backwards: {refusal}"))
 }
 
 fn run(rt: &HostRuntime) -> anyhow::Result<()> {
     let mut image = Vec::new(rt.alloc());
     rt.stdin().take(MOST).read_to_end(&mut image)?;
-    let mut cells = turned(rt.alloc(), RecordFile::new(image.as_mut_slice()))?;
-    let count = cells.count();
+    let file = RecordFile::new(image.as_mut_slice());
+    let count = file.count();
+    // Made once, before anything is printed.
+    let row: Vec<usize> = (1..=count).rev().collect(rt.alloc())?;
+    let mut cells = turned(file, row.as_slice())?;
     println!(rt; "{count} cells")?;
     take_steps(rt, &mut cells)?;
     show(rt, "cell", &cells)?;
-    let mut table = turned(rt.alloc(), MarkTable::new(count))?;
+    let mut table = turned(MarkTable::new(count), row.as_slice())?;
     take_steps(rt, &mut table)?;
     let same = agreeing(&cells, &table);
     println!(rt; "mark table agrees in {same}")?;

@@ -3,15 +3,19 @@ use model::Round;
 use numbers::sizes::Sizes;
 use std::alloc::{AllocError, Global};
 
-// The name that the files of a plan, of its twin and of the rounds of a stand-off share, and the stand-off's sizes.
+// The files of a plan, of its twin and of the rounds of a stand-off, and the stand-off's sizes.
 #[derive(Clone, Copy)]
 pub struct Act {
-    pub name: &'static str,
+    pub plan: &'static str,
+    pub twin: &'static str,
+    pub rounds: &'static str,
     pub sizes: Sizes,
 }
 
 pub const READ_WRITE: Act = Act {
-    name: "read_write",
+    plan: "read_write.plan",
+    twin: "read_write.twin",
+    rounds: "read_write.rounds",
     sizes: Sizes {
         agents: 2,
         cells: 4,
@@ -19,7 +23,9 @@ pub const READ_WRITE: Act = Act {
 };
 
 pub const MAJORITY: Act = Act {
-    name: "majority",
+    plan: "majority.plan",
+    twin: "majority.twin",
+    rounds: "majority.rounds",
     sizes: Sizes {
         agents: 3,
         cells: 9,
@@ -27,7 +33,9 @@ pub const MAJORITY: Act = Act {
 };
 
 pub const LADDER: Act = Act {
-    name: "ladder",
+    plan: "ladder.plan",
+    twin: "ladder.twin",
+    rounds: "ladder.rounds",
     sizes: Sizes {
         agents: 9,
         cells: 10,

@@ -111,18 +111,11 @@ fn play_act<R: Rule + Copy>(
     told
 }
 
-// One of the files of an act.
-fn read_file(rt: &HostRuntime, act: Act, part: &str) -> anyhow::Result<Vec<u8>> {
-    let name = act.name;
-    let path = format!(in rt.alloc(); "{name}.{part}")?;
-    Ok(fs::read(rt, path)?)
-}
-
 // Rehearses one rule.
 fn run_act<R: Rule + Copy>(rt: &HostRuntime, rule: R, act: Act) -> anyhow::Result<bool> {
-    let plan = read_file(rt, act, "plan")?;
-    let twin = read_file(rt, act, "twin")?;
-    let letters = read_file(rt, act, "rounds")?;
+    let plan = fs::read(rt, act.plan)?;
+    let twin = fs::read(rt, act.twin)?;
+    let letters = fs::read(rt, act.rounds)?;
     let rounds = rounds_of(rt.alloc(), letters.as_slice())?;
     let script = Script {
         plan: plan.as_slice(),

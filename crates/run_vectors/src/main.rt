@@ -4,7 +4,7 @@
 
 use std::fs;
 use std::io::Write;
-use trials::trial_text;
+use trials::{MAX_REPORT, show_trial};
 
 fn main(rt: HostRuntime) -> anyhow::Result<()> {
     let names = fs::read_to_string(&rt, "names.txt")?;
@@ -12,9 +12,10 @@ fn main(rt: HostRuntime) -> anyhow::Result<()> {
     for name in names.lines() {
         let path = format!(in rt.alloc(); "{name}.plan")?;
         let file = fs::read(&rt, path)?;
-        let text = trial_text(rt.alloc(), &file)?;
         println!(rt; "{name}")?;
-        rt.stdout().write_all(&text)?;
+        let mut buffer = [0; MAX_REPORT];
+        let length = show_trial(rt.alloc(), &file, &mut buffer)?;
+        rt.stdout().write_all(&buffer[..length])?;
     }
     Ok(())
 }
