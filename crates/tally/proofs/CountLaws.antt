@@ -1,7 +1,7 @@
 -- Laws of counts. Assumes nothing.
-use Rattle.std.proofs.Common.{◌≡◌, ℕ, zero, suc, ◌+◌, ◌-◌, ◌≤◌, ◌<◌, max, Bool, true, false, cond, List, [], ◌∷◌, length, get_or, take, take_all, sym, refl, ap, ◌∙◌, add-one, arith, Some, None, ⊎_elim}
+use Rattle.std.proofs.Common.{◌≡◌, ℕ, zero, suc, ◌+◌, ◌-◌, ◌≤◌, ◌<◌, max, Bool, true, false, cond, List, length, get_or, take, take_all, sym, refl, ap, ◌∙◌, add-one, arith, Some, None, ⊎_elim}
 use Rattle.std.specs.Option.{is_some, option_map}
-use Rattle.std.specs.List.{fold, filter, count_by, position_or_len, enumerate_from, list_any}
+use Rattle.std.specs.List.{fold, count_by, position_or_len, enumerate_from, list_any}
 use Rattle.std.proofs.lemmas.Bool.{cond_both, lt-ltb, le-ltb}
 use Rattle.std.proofs.lemmas.List.{get_or_default}
 use Rattle.std.proofs.lemmas.List.Folds.{list_any_none, list_any_at}
@@ -123,16 +123,7 @@ module _ {X : Type 0} (xs : List X) (d : X) where
       list_any_at p xs (s.0 - 1) d (omega arith) s.2.passes ∙ ap is_some (sym s.1))
       (first_cases (λ y. p (at_name xs d y)) 1 (length xs) (1 + length xs) refl)
 
--- the largest number of those that pass a test, where the others would count 0
-largest_passing_head : {X : Type 0} (test : X → Bool) (f : X → ℕ) (a : ℕ) (x : X) (xs : List X) → ((z : ℕ) → fold (λ b y. max b (f y)) z (filter test xs) ≡ fold (λ b y. max b (cond (test y) (f y) 0)) z xs) → (b : Bool) → fold (λ b y. max b (f y)) a (cond b (x ∷ filter test xs) (filter test xs)) ≡ fold (λ b y. max b (cond (test y) (f y) 0)) (max a (cond b (f x) 0)) xs
-largest_passing_head test f a x xs tail true = tail (max a (f x))
-largest_passing_head test f a x xs tail false = let none : a ≡ max a 0 = omega arith in tail a ∙ ap (λ z. fold (λ b y. max b (cond (test y) (f y) 0)) z xs) none
-
-pub largest_passing : {X : Type 0} (test : X → Bool) (f : X → ℕ) (a : ℕ) (xs : List X) → fold (λ b y. max b (f y)) a (filter test xs) ≡ fold (λ b y. max b (cond (test y) (f y) 0)) a xs
-largest_passing test f a [] = refl
-largest_passing test f a (x ∷ xs) = largest_passing_head test f a x xs (λ z. largest_passing test f z xs) (test x)
-
--- the same for a test of an index and the element there
+-- how many pass a test of an index and the element there
 pub enumerated_is : {X : Type 0} (xs : List X) (d : X) (f : ℕ → X → Bool) → count_by (λ q. f q.0 q.1) (enumerate_from 0 xs) ≡ count_names (λ y. f (y - 1) (at_name xs d y)) (length xs)
 enumerated_is xs d f =
     let test : ℕ → Bool = λ y. f (at_name (enumerate_from 0 xs) (0, d) y).0 (at_name (enumerate_from 0 xs) (0, d) y).1 in
